@@ -17,16 +17,19 @@ none-kept = record { nodes = record { time = []; birth = [] }; edges = record { 
 pub record ByHand : Type 0 where
   -- the listing
   pub P1 : cleaned stands 10 listing (501 ∷ 502 ∷ []) ≡ record {
-      nodes = record {
-          time = 0 ∷ 0 ∷ 1 ∷ 2 ∷ [];
-          birth = 501 ∷ 502 ∷ 401 ∷ 301 ∷ [] };
-      edges = record {
-          left = 4 ∷ 4 ∷ 0 ∷ 6 ∷ 0 ∷ 6 ∷ [];
-          right = 6 ∷ 6 ∷ 4 ∷ 10 ∷ 4 ∷ 10 ∷ [];
-          parent = 2 ∷ 2 ∷ 3 ∷ 3 ∷ 3 ∷ 3 ∷ [];
-          child = 0 ∷ 1 ∷ 0 ∷ 0 ∷ 1 ∷ 1 ∷ [] };
-      sites = record { position = 5 ∷ 8 ∷ []; ancestral = 65 ∷ 67 ∷ [] };
-      muts = record { site = 0 ∷ 1 ∷ 1 ∷ []; node = 2 ∷ 3 ∷ 0 ∷ []; derived = 84 ∷ 84 ∷ 71 ∷ [] } }
+    nodes = record {
+      time = 0 ∷ 0 ∷ 1 ∷ 2 ∷ [];
+      birth = 501 ∷ 502 ∷ 401 ∷ 301 ∷ [];
+    };
+    edges = record {
+      left = 4 ∷ 4 ∷ 0 ∷ 6 ∷ 0 ∷ 6 ∷ [];
+      right = 6 ∷ 6 ∷ 4 ∷ 10 ∷ 4 ∷ 10 ∷ [];
+      parent = 2 ∷ 2 ∷ 3 ∷ 3 ∷ 3 ∷ 3 ∷ [];
+      child = 0 ∷ 1 ∷ 0 ∷ 0 ∷ 1 ∷ 1 ∷ [];
+    };
+    sites = record { position = 5 ∷ 8 ∷ []; ancestral = 65 ∷ 67 ∷ [] };
+    muts = record { site = 0 ∷ 1 ∷ 1 ∷ []; node = 2 ∷ 3 ∷ 0 ∷ []; derived = 84 ∷ 84 ∷ 71 ∷ [] };
+  }
   pub P1-checked : check limits 10 listing (501 ∷ 502 ∷ []) ≡ done
   pub P1-map : nodeMap stands 10 listing (501 ∷ 502 ∷ []) ≡ 0 ∷ 1 ∷ 2 ∷ 3 ∷ 4294967295 ∷ []
   -- same, samples 501, 401: one edge (0,10,1,0)
@@ -52,6 +55,17 @@ pub record ByHand : Type 0 where
 pub by-hand : ByHand
 unfolding cleaned stands nodeMap check allele
 by-hand = record {
-    P1 = refl; P1-checked = refl; P1-map = refl; P2 = refl; P3 = refl;
-    P4 = refl; P5 = refl; P6 = refl; P7 = refl; P8 = refl; P9 = refl;
-    P10-501 = refl; P10-502 = refl }
+  P1 = refl;
+  P1-checked = refl;
+  P1-map = refl;
+  P2 = refl;
+  P3 = refl;
+  P4 = refl;
+  P5 = refl;
+  P6 = refl;
+  P7 = refl;
+  P8 = refl;
+  P9 = refl;
+  P10-501 = refl;
+  P10-502 = refl;
+}

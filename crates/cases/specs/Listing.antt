@@ -5,15 +5,17 @@ use Rattle.meaning.specs.Rows.{NodeColumns, EdgeColumns, SiteColumns, MutationC
 
 abbrev pub nodes : NodeColumns
 nodes = record {
-    time = 0 ∷ 0 ∷ 1 ∷ 2 ∷ 3 ∷ [];
-    birth = 501 ∷ 502 ∷ 401 ∷ 301 ∷ 201 ∷ [] }
+  time = 0 ∷ 0 ∷ 1 ∷ 2 ∷ 3 ∷ [];
+  birth = 501 ∷ 502 ∷ 401 ∷ 301 ∷ 201 ∷ [];
+}
 
 abbrev pub edges : EdgeColumns
 edges = record {
-    left = 0 ∷ 4 ∷ 0 ∷ 0 ∷ 6 ∷ 0 ∷ [];
-    right = 10 ∷ 6 ∷ 10 ∷ 4 ∷ 10 ∷ 10 ∷ [];
-    parent = 2 ∷ 2 ∷ 3 ∷ 3 ∷ 3 ∷ 4 ∷ [];
-    child = 0 ∷ 1 ∷ 2 ∷ 1 ∷ 1 ∷ 3 ∷ [] }
+  left = 0 ∷ 4 ∷ 0 ∷ 0 ∷ 6 ∷ 0 ∷ [];
+  right = 10 ∷ 6 ∷ 10 ∷ 4 ∷ 10 ∷ 10 ∷ [];
+  parent = 2 ∷ 2 ∷ 3 ∷ 3 ∷ 3 ∷ 4 ∷ [];
+  child = 0 ∷ 1 ∷ 2 ∷ 1 ∷ 1 ∷ 3 ∷ [];
+}
 
 abbrev pub sites : SiteColumns
 sites = record { position = 5 ∷ 8 ∷ []; ancestral = 65 ∷ 67 ∷ [] }

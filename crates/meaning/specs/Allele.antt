@@ -30,8 +30,9 @@ carries l i b = any (sits i b) l
 unfoldable pub alleleAt : Record → ℕ → ℕ → ℕ
 unfolding near parentIn carries lastState posOf stateOf
 alleleAt R i b = elim (near (parentIn (R .edges) (posOf (R .sites) i)) (carries (R .muts) i) Ages b) [
-    none ↦ stateOf (R .sites) i
-  | some w ↦ lastState i w (R .muts) (stateOf (R .sites) i) ]
+  | none ↦ stateOf (R .sites) i
+  | some w ↦ lastState i w (R .muts) (stateOf (R .sites) i)
+]
 
 -- "Check 1 to 10; then 41 if the site row doesn't exist (row 0), 42 if the birth number names no node (row 0)."
 unfoldable pub alleleAnswer : Limits → ℕ → Tables → ℕ → ℕ → Answer

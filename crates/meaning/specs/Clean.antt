@@ -91,11 +91,12 @@ module _ (rule : Rules) where
   unfoldable pub clean : List ℕ → Record → Record
   unfolding kept nodeOf edgesFor moved forestAt lowAt timeOf posOf
   clean S R = record {
-      len = R .len;
-      nodes = map (nodeOf (R .nodes)) (kept R S);
-      edges = edgesFor (R .len) (timeOf (R .nodes)) (forestAt R S) (kept R S);
-      sites = R .sites;
-      muts = moved (posOf (R .sites)) (lowAt R S) (R .muts) }
+    len = R .len;
+    nodes = map (nodeOf (R .nodes)) (kept R S);
+    edges = edgesFor (R .len) (timeOf (R .nodes)) (forestAt R S) (kept R S);
+    sites = R .sites;
+    muts = moved (posOf (R .sites)) (lowAt R S) (R .muts);
+  }
 
   -- tables 1 to 4 of the result
   unfoldable pub cleaned : ℕ → Tables → List ℕ → Tables
@@ -123,7 +124,8 @@ module _ (rule : Rules) where
   cleaning m L T S out outMap =
       let a : Answer = cleanAnswer m L T S out outMap in
       record {
-          answer = a;
-          counts = countsBy a (cleaned L T S);
-          cells = cellsBy a (cleaned L T S) out;
-          map = left-by a (nodeMap L T S) outMap }
+        answer = a;
+        counts = countsBy a (cleaned L T S);
+        cells = cellsBy a (cleaned L T S) out;
+        map = left-by a (nodeMap L T S) outMap;
+      }

@@ -49,11 +49,12 @@ bySite a b i (suc k) = ofSite i a ++ (ofSite i b ++ bySite a b (suc i) k)
 unfoldable pub join : Record → Batch → Record
 unfolding sort keyed bySite
 join R B = record {
-    len = R .len;
-    nodes = R .nodes ++ B .nodes;
-    edges = sort (keyed (R .nodes ++ B .nodes)) (R .edges ++ B .edges);
-    sites = R .sites;
-    muts = bySite (R .muts) (B .muts) 0 (length (R .sites)) }
+  len = R .len;
+  nodes = R .nodes ++ B .nodes;
+  edges = sort (keyed (R .nodes ++ B .nodes)) (R .edges ++ B .edges);
+  sites = R .sites;
+  muts = bySite (R .muts) (B .muts) 0 (length (R .sites));
+}
 
 unfoldable pub joined : ℕ → Tables → BatchTables → Tables
 unfolding tablesOf join recordOf batchOf

@@ -26,25 +26,31 @@ fitThen m new out rest =
 unfoldable pub countsBy : Answer → Tables → Counts
 unfolding accepted
 countsBy a new = elim (accepted a) [
-    true ↦ record { nodes = length (new .nodes .time); edges = length (new .edges .left); sites = length (new .sites .position); mutations = length (new .muts .site) }
-  | false ↦ record { nodes = 0; edges = 0; sites = 0; mutations = 0 } ]
+  | true ↦ record { nodes = length (new .nodes .time); edges = length (new .edges .left); sites = length (new .sites .position); mutations = length (new .muts .site) }
+  | false ↦ record { nodes = 0; edges = 0; sites = 0; mutations = 0 }
+]
 
 -- each column as the answer leaves it
 unfoldable pub cellsBy : Answer → Tables → Tables → Tables
 unfolding left-by
 cellsBy a new out = record {
-    nodes = record {
-        time = left-by a (new .nodes .time) (out .nodes .time);
-        birth = left-by a (new .nodes .birth) (out .nodes .birth) };
-    edges = record {
-        left = left-by a (new .edges .left) (out .edges .left);
-        right = left-by a (new .edges .right) (out .edges .right);
-        parent = left-by a (new .edges .parent) (out .edges .parent);
-        child = left-by a (new .edges .child) (out .edges .child) };
-    sites = record {
-        position = left-by a (new .sites .position) (out .sites .position);
-        ancestral = left-by a (new .sites .ancestral) (out .sites .ancestral) };
-    muts = record {
-        site = left-by a (new .muts .site) (out .muts .site);
-        node = left-by a (new .muts .node) (out .muts .node);
-        derived = left-by a (new .muts .derived) (out .muts .derived) } }
+  nodes = record {
+    time = left-by a (new .nodes .time) (out .nodes .time);
+    birth = left-by a (new .nodes .birth) (out .nodes .birth);
+  };
+  edges = record {
+    left = left-by a (new .edges .left) (out .edges .left);
+    right = left-by a (new .edges .right) (out .edges .right);
+    parent = left-by a (new .edges .parent) (out .edges .parent);
+    child = left-by a (new .edges .child) (out .edges .child);
+  };
+  sites = record {
+    position = left-by a (new .sites .position) (out .sites .position);
+    ancestral = left-by a (new .sites .ancestral) (out .sites .ancestral);
+  };
+  muts = record {
+    site = left-by a (new .muts .site) (out .muts .site);
+    node = left-by a (new .muts .node) (out .muts .node);
+    derived = left-by a (new .muts .derived) (out .muts .derived);
+  };
+}

@@ -88,11 +88,12 @@ mutsOf name M = rows (λ i. record { site = at (M .site) i; node = name (at (M .
 unfoldable pub recordOf : ℕ → Tables → Record
 unfolding nodesOf edgesOf sitesOf mutsOf
 recordOf L T = record {
-    len = L;
-    nodes = nodesOf (T .nodes);
-    edges = edgesOf (at (T .nodes .birth)) (T .edges);
-    sites = sitesOf (T .sites);
-    muts = mutsOf (at (T .nodes .birth)) (T .muts) }
+  len = L;
+  nodes = nodesOf (T .nodes);
+  edges = edgesOf (at (T .nodes .birth)) (T .edges);
+  sites = sitesOf (T .sites);
+  muts = mutsOf (at (T .nodes .birth)) (T .muts);
+}
 
 -- ---- and back: a birth number becomes its row
 
@@ -105,21 +106,26 @@ unfolding births indexOf
 tablesOf R =
     let row : ℕ → ℕ = λ b. indexOf b (births (R .nodes)) in
     record {
-        nodes = record {
-            time = map (λ (n : Node). n .time) (R .nodes);
-            birth = births (R .nodes) };
-        edges = record {
-            left = map (λ (e : Edge). e .left) (R .edges);
-            right = map (λ (e : Edge). e .right) (R .edges);
-            parent = map (λ (e : Edge). row (e .parent)) (R .edges);
-            child = map (λ (e : Edge). row (e .child)) (R .edges) };
-        sites = record {
-            position = map (λ (s : Site). s .pos) (R .sites);
-            ancestral = map (λ (s : Site). s .state) (R .sites) };
-        muts = record {
-            site = map (λ (m : Mutation). m .site) (R .muts);
-            node = map (λ (m : Mutation). row (m .node)) (R .muts);
-            derived = map (λ (m : Mutation). m .derived) (R .muts) } }
+      nodes = record {
+        time = map (λ (n : Node). n .time) (R .nodes);
+        birth = births (R .nodes);
+      };
+      edges = record {
+        left = map (λ (e : Edge). e .left) (R .edges);
+        right = map (λ (e : Edge). e .right) (R .edges);
+        parent = map (λ (e : Edge). row (e .parent)) (R .edges);
+        child = map (λ (e : Edge). row (e .child)) (R .edges);
+      };
+      sites = record {
+        position = map (λ (s : Site). s .pos) (R .sites);
+        ancestral = map (λ (s : Site). s .state) (R .sites);
+      };
+      muts = record {
+        site = map (λ (m : Mutation). m .site) (R .muts);
+        node = map (λ (m : Mutation). row (m .node)) (R .muts);
+        derived = map (λ (m : Mutation). m .derived) (R .muts);
+      };
+    }
 
 -- ---- reading a record
 

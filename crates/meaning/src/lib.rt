@@ -10,6 +10,7 @@ pub struct NodeTable {
 
 impl NodeTable {
     pub const NUMBER: usize = 1;
+
     pub const MOST: usize = 1024;
 }
 
@@ -20,6 +21,7 @@ pub struct EdgeTable {
 
 impl EdgeTable {
     pub const NUMBER: usize = 2;
+
     pub const MOST: usize = 4096;
 }
 
@@ -30,6 +32,7 @@ pub struct SiteTable {
 
 impl SiteTable {
     pub const NUMBER: usize = 3;
+
     pub const MOST: usize = 512;
 }
 
@@ -40,6 +43,7 @@ pub struct MutationTable {
 
 impl MutationTable {
     pub const NUMBER: usize = 4;
+
     pub const MOST: usize = 1024;
 }
 
@@ -50,6 +54,7 @@ pub struct SampleTable {
 
 impl SampleTable {
     pub const NUMBER: usize = 5;
+
     pub const MOST: usize = 256;
 }
 
@@ -60,6 +65,7 @@ pub struct MapTable {
 
 impl MapTable {
     pub const NUMBER: usize = 6;
+
     pub const NONE: u32 = 4294967295;
 }
 
