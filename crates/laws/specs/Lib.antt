@@ -2,3 +2,4 @@
 pub mod Bools
 pub mod Counting
 pub mod Members
+pub mod Facts
