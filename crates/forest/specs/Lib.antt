@@ -2,3 +2,8 @@
 pub mod Lines
 pub mod Contract
 pub mod Joining
+pub mod Passing
+pub mod TreeLaws
+pub mod Lowest
+pub mod Position
+pub mod Code
