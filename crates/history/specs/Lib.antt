@@ -1,0 +1,3 @@
+-- Demand 3: records, batches joined to them, and cleanings in between.
+pub mod Order
+pub mod Lists
