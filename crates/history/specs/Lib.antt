@@ -1,3 +1,6 @@
 -- Demand 3: records, batches joined to them, and cleanings in between.
 pub mod Order
 pub mod Lists
+pub mod Nodes
+pub mod Encode
+pub mod Moved
