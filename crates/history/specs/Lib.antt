@@ -4,3 +4,6 @@ pub mod Lists
 pub mod Nodes
 pub mod Encode
 pub mod Moved
+pub mod JoinEdges
+pub mod Kept
+pub mod Same
