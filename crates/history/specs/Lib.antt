@@ -7,3 +7,4 @@ pub mod Moved
 pub mod JoinEdges
 pub mod Kept
 pub mod Same
+pub mod Cleaned
