@@ -8,3 +8,4 @@ pub mod JoinEdges
 pub mod Kept
 pub mod Same
 pub mod Cleaned
+pub mod Joined
