@@ -9,3 +9,4 @@ pub mod Kept
 pub mod Same
 pub mod Cleaned
 pub mod Joined
+pub mod Step
