@@ -10,3 +10,5 @@ pub mod Same
 pub mod Cleaned
 pub mod Joined
 pub mod Step
+pub mod Tidy
+pub mod Run
