@@ -12,3 +12,5 @@ pub mod Joined
 pub mod Step
 pub mod Tidy
 pub mod Run
+pub mod RowForm
+pub mod Calls
