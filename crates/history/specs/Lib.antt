@@ -14,3 +14,4 @@ pub mod Tidy
 pub mod Run
 pub mod RowForm
 pub mod Calls
+pub mod AtSite
