@@ -13,7 +13,7 @@ use Rattle.meaning.specs.Clean.{moved}
 use Rattle.meaning.specs.Allele.{sits, lastState, carries}
 use Rattle.laws.specs.Bools.{clash, truth, and-of, not-true, some-inj, none-some}
 use Rattle.laws.specs.Facts.{All, done, also}
-use Rattle.history.specs.Lists.{all-both}
+use Rattle.history.specs.Lists.{all-to, all-both}
 
 abbrev pub put : Mutation → ℕ → Mutation
 put m w = record { site = m .site; node = w; derived = m .derived }
@@ -22,6 +22,10 @@ put m w = record { site = m .site; node = w; derived = m .derived }
 pub data Pairs (Q : Mutation → Mutation → Type 0) : List Mutation → Type 0 where
   no-pair : Pairs Q []
   with-all : {m : Mutation} {l : List Mutation} → All (Q m) l → Pairs Q l → Pairs Q (m ∷ l)
+
+pub pairs-to : {Q W : Mutation → Mutation → Type 0} {l : List Mutation} → ((m n : Mutation) → Q m n → W m n) → Pairs Q l → Pairs W l
+pairs-to h no-pair = no-pair
+pairs-to h (with-all a p) = with-all (all-to (h _) a) (pairs-to h p)
 
 module _ (i : ℕ) where
   pub sits-of : (b : ℕ) (m : Mutation) → sits i b m ≡ true → (m .site ≡ i) × (m .node ≡ b)
@@ -135,9 +139,9 @@ module _ (i : ℕ) where
 
   -- u carries the lowest mutations of the site that come to w, and no later one is on a proper ancestor: the last row of u is the last row of w
   module _ (pos : ℕ → ℕ) (G : ℕ → ℕ → Option ℕ) (Proper : ℕ → ℕ → Type 0) (u w : ℕ) (goes : G (pos i) u ≡ some w) where
-    -- no later mutation n of m's site is on a proper ancestor of m's node
+    -- a mutation n of the site that comes later than m is on no proper ancestor of m's node
     abbrev pub Under : Mutation → Mutation → Type 0
-    Under m n = m .site ≡ n .site → Proper (n .node) (m .node) → ⊥
+    Under m n = m .site ≡ i → n .site ≡ i → Proper (n .node) (m .node) → ⊥
 
     -- a mutation of the site that comes to w is on u or above it
     abbrev pub Comes : Mutation → Type 0
@@ -151,7 +155,7 @@ module _ (i : ℕ) where
         let q : _ = sits-of u m f in
         ⊎-elim
         (λ (e : n .0 .node ≡ u). clash (ap (carries l i) (sym e ∙ n .2) ∙ r .1) h)
-        (λ (e : Proper (n .0 .node) u). n .3 .0 (q .0 ∙ sym (n .1)) (over (n .0 .node) (q .1) e))
+        (λ (e : Proper (n .0 .node) u). n .3 .0 (q .0) (n .1) (over (n .0 .node) (q .1) e))
         (n .3 .1 (n .1) g))
       where
         over : (v : ℕ) → m .node ≡ u → Proper v u → Proper v (m .node)

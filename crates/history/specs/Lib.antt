@@ -15,3 +15,4 @@ pub mod Run
 pub mod RowForm
 pub mod Calls
 pub mod AtSite
+pub mod Alleles
