@@ -3,12 +3,12 @@ use mathlib.Core.Path.{_≡_, refl, sym, _∙_}
 use mathlib.Core.Bool.{Bool, true, false}
 use mathlib.Core.Option.{Option, none, some}
 use mathlib.Core.Logic.{_⊎_, inl, inr, ⊎-elim}
-use Prim.Native.Nat.{ℕ, _+_, _≤_}
+use Prim.Native.Nat.{ℕ, _+_, _<_, _≤_}
 use native.Mathlib.Omega.{arith}
 use Rattle.meaning.specs.Forest.{Par, Ages, ancestor}
 use Rattle.laws.specs.Bools.{clash, eq?, not-true, some-inj}
-use Rattle.forest.specs.Lines.{Above, here, step, Ranked, trans, antisym, comparable}
-use Rattle.forest.specs.Contract.{Near, found, on, Low, Contract, near-in, near-above, order-in, order-out}
+use Rattle.forest.specs.Lines.{Above, here, step, Ranked, trans, antisym, comparable, rank-le}
+use Rattle.forest.specs.Contract.{Near, found, on, Low, Contract, near-in, near-above, order-in, order-out, contract-ranked}
 use Rattle.forest.specs.TreeLaws.{Aged, above-of, of-above}
 
 module _ {P : Par} {c : ℕ → Bool} where
@@ -53,16 +53,35 @@ module _ {P : Par} {K : ℕ → Bool} {Q : Par} (ct : Contract P K Q) (rank : �
 
 -- ---- a proper ancestor
 
-module _ (P : Par) (rank : ℕ → ℕ) (ok : Aged P rank) where
-  pub ancestor-of : (a b : ℕ) → ancestor P a b ≡ true → (p : ℕ) × (P b ≡ some p) × Above P a p
-  unfolding ancestor
-  ancestor-of a b h = go (P b) refl
-    where
-      go : (o : Option ℕ) → P b ≡ o → (p : ℕ) × (P b ≡ some p) × Above P a p
-      go none e = absurd (clash (rw (e, ancestor) at h) refl)
-      go (some p) e = (p, e, above-of P Ages a p (rw (e, ancestor) at h))
+pub ancestor-of : (P : Par) (a b : ℕ) → ancestor P a b ≡ true → (p : ℕ) × (P b ≡ some p) × Above P a p
+unfolding ancestor
+ancestor-of P a b h = go (P b) refl
+  where
+    go : (o : Option ℕ) → P b ≡ o → (p : ℕ) × (P b ≡ some p) × Above P a p
+    go none e = absurd (clash (rw (e, ancestor) at h) refl)
+    go (some p) e = (p, e, above-of P Ages a p (rw (e, ancestor) at h))
 
+module _ (P : Par) (rank : ℕ → ℕ) (ok : Aged P rank) where
   pub of-ancestor : (a b : ℕ) → Above P a b → (a ≡ b → ⊥) → ancestor P a b ≡ true
   unfolding ancestor
   of-ancestor a b here n = absurd (n refl)
   of-ancestor a b (step {p} e x) n = rw (e, ancestor) (of-above P rank ok Ages a p (omega arith) x)
+
+  -- drawing together turns no two marks round: where v's mark ends properly above u's, v was properly above u
+  pub low-order : {K : ℕ → Bool} {Q : Par} → Contract P K Q → {u v w z : ℕ} → Low P K w u → Low P K z v → ancestor Q z w ≡ true → ancestor P v u ≡ true
+  low-order {K} {Q} ct {u} {v} {w} {z} a b h = ⊎-elim
+      (λ (y : Above P u z). absurd (not-under y))
+      (λ (y : Above P z u). of-ancestor v u (trans (b .below) y) (λ (q : v ≡ u). not-under (rw q at (b .below))))
+      (comparable (a .below) over)
+    where
+      r : (p : ℕ) × (Q w ≡ some p) × Above Q z p
+      r = ancestor-of Q z w h
+
+      over : Above P z w
+      over = order-in ct (trans (r .2) (step (r .1) here))
+
+      older : rank w < rank z
+      older = let okQ : Ranked Q rank = contract-ranked ct (ok .ranked) in omega (arith, okQ .grows (r .1), rank-le rank okQ (r .2))
+
+      not-under : Above P u z → ⊥
+      not-under y = omega (arith, older, rank-le rank (ok .ranked) (a .all (b .in-set) y))

@@ -21,9 +21,10 @@ use Rattle.forest.specs.Contract.{Near, Low, near-in, near-above}
 use Rattle.forest.specs.TreeLaws.{Aged, near-of, of-near}
 use Rattle.forest.specs.Lowest.{Rule, low-of, of-low}
 use Rattle.forest.specs.Position.{Profile, contract-aged}
-use Rattle.forest.specs.Carriers.{near-least, near-low, near-came, of-ancestor}
+use Rattle.forest.specs.Carriers.{near-least, near-low, near-came, of-ancestor, low-order}
 use Rattle.history.specs.Lists.{all-to}
-use Rattle.history.specs.AtSite.{Pairs, no-pair, with-all, all-carry, carries-pick, carried-from, carried-to, last-moved, pairs-to}
+use Rattle.history.specs.Pairs.{Pairs, pairs-to, pairs-at, pairs-moved, put}
+use Rattle.history.specs.AtSite.{all-carry, carries-pick, carried-from, carried-to, last-moved}
 use Rattle.history.specs.Cleaned.{good-aged, good-nodes, rule-at, drawn-at, clean-parent}
 
 -- what check 10 finds: no mutation n that comes later at m's site is on a proper ancestor of m's node
@@ -32,6 +33,10 @@ Settles R m n = m .site ≡ n .site → ancestor (parentIn (R .edges) (posOf (R 
 
 pub record Settled (R : Record) : Type 0 where
   pub order : Pairs (Settles R) (R .muts)
+
+-- the same by rows, as check 10 looks
+pub settled-rows : (R : Record) (d : Mutation) → ((j k : ℕ) → j < k → k < length (R .muts) → Settles R (getD (R .muts) j d) (getD (R .muts) k d)) → Settled R
+settled-rows R d h = record { order = pairs-at d (R .muts) h }
 
 -- ---- the allele by the nearest carrier
 
@@ -172,3 +177,25 @@ module _ (rule : Rules) (pr : Profile rule) (R : Record) (S : List ℕ) (ok : Cl
     -- "Cleaning changes no sample's allele."
     pub clean-allele : alleleAt (clean rule S R) i s ≡ alleleAt R i s
     clean-allele = ⊎-elim (λ (e : ltb x (R .len) ≡ true). on-it (ltb-true x (R .len) e)) (λ (e : ltb x (R .len) ≡ false). off-it (λ l. omega (arith, ltb-false x (R .len) e))) (truth (ltb x (R .len)))
+
+-- ---- a cleaned record is settled again
+
+module _ (rule : Rules) (pr : Profile rule) (R : Record) (S : List ℕ) (ok : CleanOk R S) (st : Settled R) where
+  abbrev OnIt : Mutation → Type 0
+  OnIt m = (mem (m .node) (births (R .nodes)) ≡ true) × (posOf (R .sites) (m .site) < R .len)
+
+  moved-settled : (m n : Mutation) (w v : ℕ) → OnIt m → Settles R m n → lowAt rule R S (posOf (R .sites) (m .site)) (m .node) ≡ some w → lowAt rule R S (posOf (R .sites) (n .site)) (n .node) ≡ some v → Settles (clean rule S R) (put m w) (put n v)
+  unfolding clean
+  moved-settled m n w v o t e f q = not-true (ancestor (parentIn (clean rule S R .edges) (posOf (R .sites) (m .site))) v w) (λ h.
+      let g : lowAt rule R S (posOf (R .sites) (m .site)) (n .node) ≡ some v = ap (λ (k : ℕ). lowAt rule R S (posOf (R .sites) k) (n .node)) q ∙ f in
+      let c : ancestor (drawn (P rule pr R S ok st (m .site)) (K rule pr R S ok st (m .site))) v w ≡ true = sym (ap (λ (F : Par). ancestor F v w) (clean-parent rule pr R S ok (posOf (R .sites) (m .site)) (o .1))) ∙ h in
+      clash
+      (low-order (P rule pr R S ok st (m .site)) (timeOf (R .nodes)) (aged rule pr R S ok st (m .site)) (drawn-at rule pr R S ok (posOf (R .sites) (m .site))) (low-at rule pr R S ok st (m .site) (m .node) w e) (low-at rule pr R S ok st (m .site) (n .node) v g) c)
+      (t q))
+
+  clean-order : Pairs (Settles (clean rule S R)) (moved (posOf (R .sites)) (lowAt rule R S) (R .muts))
+  clean-order = pairs-moved (posOf (R .sites)) (lowAt rule R S) (Settles R) (Settles (clean rule S R)) OnIt moved-settled (R .muts) (ok .good .muts-ok) (st .order)
+
+  -- what check 10 found of a record it finds of the cleaned record
+  pub clean-settled : Settled (clean rule S R)
+  clean-settled = record { order = unfold clean in clean-order }

@@ -13,19 +13,8 @@ use Rattle.meaning.specs.Clean.{moved}
 use Rattle.meaning.specs.Allele.{sits, lastState, carries}
 use Rattle.laws.specs.Bools.{clash, truth, and-of, not-true, some-inj, none-some}
 use Rattle.laws.specs.Facts.{All, done, also}
-use Rattle.history.specs.Lists.{all-to, all-both}
-
-abbrev pub put : Mutation → ℕ → Mutation
-put m w = record { site = m .site; node = w; derived = m .derived }
-
--- Q holds of each mutation and every later one
-pub data Pairs (Q : Mutation → Mutation → Type 0) : List Mutation → Type 0 where
-  no-pair : Pairs Q []
-  with-all : {m : Mutation} {l : List Mutation} → All (Q m) l → Pairs Q l → Pairs Q (m ∷ l)
-
-pub pairs-to : {Q W : Mutation → Mutation → Type 0} {l : List Mutation} → ((m n : Mutation) → Q m n → W m n) → Pairs Q l → Pairs W l
-pairs-to h no-pair = no-pair
-pairs-to h (with-all a p) = with-all (all-to (h _) a) (pairs-to h p)
+use Rattle.history.specs.Lists.{all-both}
+use Rattle.history.specs.Pairs.{put, Pairs, with-all}
 
 module _ (i : ℕ) where
   pub sits-of : (b : ℕ) (m : Mutation) → sits i b m ≡ true → (m .site ≡ i) × (m .node ≡ b)

@@ -14,5 +14,6 @@ pub mod Tidy
 pub mod Run
 pub mod RowForm
 pub mod Calls
+pub mod Pairs
 pub mod AtSite
 pub mod Alleles
