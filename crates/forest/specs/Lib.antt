@@ -5,6 +5,8 @@ pub mod Joining
 pub mod Passing
 pub mod TreeLaws
 pub mod Lowest
+pub mod Redrawn
+pub mod Profile
 pub mod Position
 pub mod Code
 pub mod Carriers

@@ -20,7 +20,8 @@ use Rattle.forest.specs.Lines.{Above, trans}
 use Rattle.forest.specs.Contract.{Near, Low, near-in, near-above}
 use Rattle.forest.specs.TreeLaws.{Aged, near-of, of-near}
 use Rattle.forest.specs.Lowest.{Rule, low-of, of-low}
-use Rattle.forest.specs.Position.{Profile, contract-aged}
+use Rattle.forest.specs.Redrawn.{contract-aged}
+use Rattle.forest.specs.Profile.{Profile}
 use Rattle.forest.specs.Carriers.{near-least, near-low, near-came, of-ancestor, low-order}
 use Rattle.history.specs.Lists.{all-to}
 use Rattle.history.specs.Pairs.{Pairs, pairs-to, pairs-at, pairs-moved, put}

@@ -9,7 +9,7 @@ use Rattle.meaning.specs.Forest.{Rules, stands}
 use Rattle.meaning.specs.Clean.{clean, cleaned}
 use Rattle.meaning.specs.Join.{BatchTables, Batch, batchOf, join, joined}
 use Rattle.laws.specs.Facts.{In, Good, Closed, JoinOk, CleanOk}
-use Rattle.forest.specs.Position.{Profile, stands-profile, line, line-profile}
+use Rattle.forest.specs.Profile.{Profile, stands-profile, line, line-profile}
 use Rattle.history.specs.Cleaned.{clean-closed}
 use Rattle.history.specs.Joined.{join-closed}
 use Rattle.history.specs.Run.{Move, batch, tidy, Names, run, plain, Accepted, demand-three}

@@ -16,7 +16,7 @@ use Rattle.forest.specs.Lines.{Above, child-to}
 use Rattle.forest.specs.Contract.{Reached, Contract, near-in, contract-ranked}
 use Rattle.forest.specs.TreeLaws.{Aged, Nodes, drawn-contract}
 use Rattle.forest.specs.Lowest.{Rule, low-of}
-use Rattle.forest.specs.Position.{Profile}
+use Rattle.forest.specs.Profile.{Profile}
 use Rattle.history.specs.Lists.{all-to}
 use Rattle.history.specs.Nodes.{births-copied, node-copied, time-same, time-none}
 use Rattle.history.specs.Encode.{parent-of, edges-any, decode, edges-among}

@@ -10,7 +10,7 @@ use Rattle.meaning.specs.Rows.{Edge}
 use Rattle.meaning.specs.Forest.{parentIn}
 use Rattle.laws.specs.Bools.{truth, some-inj, opt-ext}
 use Rattle.laws.specs.Facts.{Any, Cov}
-use Rattle.forest.specs.Position.{joinPar}
+use Rattle.forest.specs.Profile.{joinPar}
 use Rattle.history.specs.Lists.{any-left, any-right, any-split, sort-any, any-sort}
 use Rattle.history.specs.Encode.{parent-of, of-parent}
 

@@ -12,7 +12,7 @@ use Rattle.meaning.specs.Join.{Batch, join}
 use Rattle.laws.specs.Bools.{or-of, or-left, or-right}
 use Rattle.laws.specs.Members.{mem-split}
 use Rattle.laws.specs.Facts.{In, Distinct, parents, Good, JoinOk, CleanOk}
-use Rattle.forest.specs.Position.{Profile, stands-profile, line, line-profile}
+use Rattle.forest.specs.Profile.{Profile, stands-profile, line, line-profile}
 use Rattle.history.specs.Lists.{filter-of, of-filter, filter-distinct}
 use Rattle.history.specs.Cleaned.{clean-births, kept-in}
 use Rattle.history.specs.Joined.{join-births}

@@ -16,7 +16,8 @@ use Rattle.laws.specs.Bools.{truth, not-true, some-inj}
 use Rattle.laws.specs.Members.{mem-here, mem-there, mem-left, mem-right, mem-split}
 use Rattle.laws.specs.Facts.{In, Distinct, Any, now, later, All, done, also, Cov, parents, JoinOk, CleanOk}
 use Rattle.forest.specs.TreeLaws.{Nodes}
-use Rattle.forest.specs.Position.{Profile, Setting, joinPar, step-sub, step-stands, step-drawn, step-low-new, step-low-old, step-low-gone}
+use Rattle.forest.specs.Profile.{Profile, Setting, joinPar}
+use Rattle.forest.specs.Position.{step-sub, step-stands, step-drawn, step-low-new, step-low-old, step-low-gone}
 use Rattle.history.specs.Lists.{distinct-join}
 use Rattle.history.specs.Nodes.{births-join, node-left, node-right}
 use Rattle.history.specs.Encode.{parent-of, of-parent}

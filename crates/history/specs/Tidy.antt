@@ -13,7 +13,7 @@ use Rattle.meaning.specs.Clean.{before, edgesFor, standsAt, forestAt, lowAt, ot
 use Rattle.meaning.specs.Join.{Batch, keyed, join}
 use Rattle.laws.specs.Members.{mem-nil}
 use Rattle.laws.specs.Facts.{In, Distinct, nil, All, done, parents, Good, JoinOk, CleanOk}
-use Rattle.forest.specs.Position.{Profile, joinPar}
+use Rattle.forest.specs.Profile.{Profile, joinPar}
 use Rattle.history.specs.Lists.{append-nil}
 use Rattle.history.specs.JoinEdges.{join-parent}
 use Rattle.history.specs.Moved.{moved-twice}
