@@ -10,3 +10,5 @@ pub mod Profile
 pub mod Position
 pub mod Code
 pub mod Carriers
+pub mod Guest
+pub mod Mrca

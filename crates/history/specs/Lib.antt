@@ -17,3 +17,4 @@ pub mod Calls
 pub mod Pairs
 pub mod AtSite
 pub mod Alleles
+pub mod Guests
