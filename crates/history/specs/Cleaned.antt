@@ -49,19 +49,17 @@ module _ (rule : Rules) (pr : Profile rule) (R : Record) (S : List ℕ) (ok : Cl
   pub drawn-at : (x : ℕ) → Contract (T x) (K x) (drawn (T x) (K x))
   drawn-at x = drawn-contract (T x) (K x) (timeOf (R .nodes)) (good-aged R (ok .good) x)
 
-  standing-old : (x b : ℕ) → K x b ≡ true → mem b (births (R .nodes)) ≡ true
-  standing-old x b k = go (rule-at x .only k)
-    where
-      go : Reached (T x) (In S) b → mem b (births (R .nodes)) ≡ true
-      go r = ⊎-elim
-          (λ (q : b ≡ r .0). rw q (ok .listed (r .0) (r .1)))
-          (λ (c : (c : ℕ) × (T x c ≡ some b) × Above (T x) c (r .0)). good-edge R (ok .good) x (c .0) b (c .1) .1)
-          (child-to (r .2))
+  -- what is reached is in the record
+  pub reached-old : (x b : ℕ) → Reached (T x) (In S) b → mem b (births (R .nodes)) ≡ true
+  reached-old x b r = ⊎-elim
+      (λ (q : b ≡ r .0). rw q (ok .listed (r .0) (r .1)))
+      (λ (c : (c : ℕ) × (T x c ≡ some b) × Above (T x) c (r .0)). good-edge R (ok .good) x (c .0) b (c .1) .1)
+      (child-to (r .2))
 
   -- what stands somewhere is kept
   pub stands-kept : (x b : ℕ) → x < R .len → K x b ≡ true → mem b (kept rule R S) ≡ true
   unfolding standsAt
-  stands-kept x b l k = standing-kept rule R S b x (standing-old x b k) l k
+  stands-kept x b l k = standing-kept rule R S b x (reached-old x b (rule-at x .only k)) l k
 
   pub kept-in : (b : ℕ) → mem b (kept rule R S) ≡ true → mem b (births (R .nodes)) ≡ true
   kept-in = kept-old rule R S (ok .listed)
