@@ -1,0 +1,14 @@
+-- Laws of the forest at one position.
+pub mod Lines
+pub mod Contract
+pub mod Joining
+pub mod Passing
+pub mod TreeLaws
+pub mod Lowest
+pub mod Redrawn
+pub mod Profile
+pub mod Position
+pub mod Code
+pub mod Carriers
+pub mod Guest
+pub mod Mrca
