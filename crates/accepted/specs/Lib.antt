@@ -1,0 +1,2 @@
+-- What an answer 0 tells: the checks' tests turned into facts, and the facts into those of the records.
+pub mod Refusals
