@@ -1,2 +1,4 @@
 -- What an answer 0 tells: the checks' tests turned into facts, and the facts into those of the records.
 pub mod Refusals
+pub mod Orders
+pub mod Tests
