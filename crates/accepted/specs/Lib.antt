@@ -2,3 +2,4 @@
 pub mod Refusals
 pub mod Orders
 pub mod Tests
+pub mod Checked

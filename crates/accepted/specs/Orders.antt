@@ -32,6 +32,7 @@ lex-cases a b l m h = less (ltb a b) refl
     same : ltb a b ≡ false → (t : Bool) → eqb a b ≡ t → (a < b) ⊎ ((a ≡ b) × (lex l m ≡ true))
     same n true e = inr (eqb-true a b e, rw (n, e, lex) at h)
     same n false e = absurd (clash (rw (n, e, lex) at h) refl)
+
     less : (t : Bool) → ltb a b ≡ t → (a < b) ⊎ ((a ≡ b) × (lex l m ≡ true))
     less true e = inl (ltb-true a b e)
     less false e = same e (eqb a b) refl

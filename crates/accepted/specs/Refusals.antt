@@ -83,10 +83,27 @@ no-any f [] All.done = refl
 no-any f (a ∷ l) (also e h) = rw (e, any) (no-any f l h)
 
 -- each column of a table is as long as its first
-pub even-of : (c : List ℕ) (l : List (List ℕ)) → ragged (c ∷ l) ≡ false → All (λ d. length d ≡ length c) l
+abbrev pub Even : List ℕ → List (List ℕ) → Type 0
+Even c l = All (λ d. length d ≡ length c) l
+
+even-of : (c : List ℕ) (l : List (List ℕ)) → ragged (c ∷ l) ≡ false → Even c l
 unfolding ragged
 even-of c l h = each-of (λ d e. eqb-true (length d) (length c) (not-no (eqb (length d) (length c)) e)) (any-no (λ d. not (eqb (length d) (length c))) l h)
 
-pub of-even : (c : List ℕ) (l : List (List ℕ)) → All (λ d. length d ≡ length c) l → ragged (c ∷ l) ≡ false
+of-even : (c : List ℕ) (l : List (List ℕ)) → Even c l → ragged (c ∷ l) ≡ false
 unfolding ragged
 of-even c l h = no-any (λ d. not (eqb (length d) (length c))) l (each-of (λ d e. ap not (eq-eqb (length d) (length c) e)) h)
+
+-- ---- the refusals of a table: columns that differ, too many rows, too little room
+
+pub passed-even : (c : List ℕ) (l : List (List ℕ)) (n r : ℕ) (rest : Answer) → 0 < n → Accepted (refuse (ragged (c ∷ l)) n r rest) → Even c l × Accepted rest
+passed-even c l n r rest z h = let p : _ = passed (ragged (c ∷ l)) n r rest z h in (even-of c l (p .0), p .1)
+
+pub pass-even : (c : List ℕ) (l : List (List ℕ)) (n r : ℕ) (rest : Answer) → Even c l → refuse (ragged (c ∷ l)) n r rest ≡ rest
+pass-even c l n r rest h = pass (ragged (c ∷ l)) n r rest (of-even c l h)
+
+pub passed-few : (most rows n r : ℕ) (rest : Answer) → 0 < n → Accepted (refuse (ltb most rows) n r rest) → (rows ≤ most) × Accepted rest
+passed-few most rows n r rest z h = let p : _ = passed (ltb most rows) n r rest z h in (ltb-false most rows (p .0), p .1)
+
+pub pass-few : (most rows n r : ℕ) (rest : Answer) → rows ≤ most → refuse (ltb most rows) n r rest ≡ rest
+pass-few most rows n r rest h = pass (ltb most rows) n r rest (le-ltb most rows h)

@@ -121,6 +121,7 @@ module _ (E : EdgeColumns) (i : ℕ) where
       at-later : (j : ℕ) → j < i → at (E .child) j ≡ at (E .child) i → at (E .left) j < at (E .right) i → at (E .left) i < at (E .right) j → (t : Bool) → leb (at (E .left) i) (at (E .left) j) ≡ t → ⊥
       at-later j l k p q true z = h j (at (E .left) j) l k (record { begun = omega arith; not-over = b j l }) (record { begun = leb-true (at (E .left) i) (at (E .left) j) z; not-over = p })
       at-later j l k p q false z = h j (at (E .left) i) l k (record { begun = omega (arith, leb-false (at (E .left) i) (at (E .left) j) z); not-over = q }) (record { begun = omega arith; not-over = a })
+
       meet : (j : ℕ) → j < i → share E j i ≡ true → ⊥
       meet j l e =
           let c : _ = and-of (eqb (at (E .child) j) (at (E .child) i)) _ e in
