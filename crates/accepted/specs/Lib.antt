@@ -3,3 +3,4 @@ pub mod Refusals
 pub mod Orders
 pub mod Tests
 pub mod Checked
+pub mod Columns
