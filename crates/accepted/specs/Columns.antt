@@ -17,6 +17,7 @@ use Rattle.laws.specs.Facts.{Distinct, Any, All, parents}
 use Rattle.laws.specs.Facts.Distinct.{nil, cons}
 use Rattle.laws.specs.Facts.Any.{now, later}
 use Rattle.laws.specs.Facts.All.{also}
+use Rattle.accepted.specs.Orders.{either-way}
 use Rattle.accepted.specs.Checked.{Apart}
 
 -- ---- lists
@@ -73,13 +74,8 @@ distinct-of (a ∷ l) h = cons
 
 -- two rows with one number are one row
 pub same-row : (l : List ℕ) → Apart l → (i j : ℕ) → i < length l → j < length l → at l i ≡ at l j → i ≡ j
-same-row l h i j p q e = go (apart? i j)
+same-row l h i j p q e = go (either-way i j)
   where
-    apart? : (a b : ℕ) → (a ≡ b) ⊎ ((a < b) ⊎ (b < a))
-    apart? zero zero = inl refl
-    apart? zero (suc b) = inr (inl (omega arith))
-    apart? (suc a) zero = inr (inr (omega arith))
-    apart? (suc a) (suc b) = ⊎-elim (λ (q : a ≡ b). inl (ap suc q)) (λ (s : (a < b) ⊎ (b < a)). ⊎-elim (λ (q : a < b). inr (inl (omega arith))) (λ (q : b < a). inr (inr (omega arith))) s) (apart? a b)
     go : (i ≡ j) ⊎ ((i < j) ⊎ (j < i)) → i ≡ j
     go (inl r) = r
     go (inr (inl r)) = absurd (h j i r q e)

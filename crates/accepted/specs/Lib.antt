@@ -4,3 +4,4 @@ pub mod Orders
 pub mod Tests
 pub mod Checked
 pub mod Columns
+pub mod Records

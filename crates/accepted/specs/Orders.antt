@@ -1,5 +1,5 @@
 -- Orders by neighbouring rows: what holds of each row and the next holds of every two rows; keys compare transitively.
-use mathlib.Core.Path.{_≡_, refl, sym, _∙_}
+use mathlib.Core.Path.{_≡_, refl, ap, _∙_}
 use mathlib.Core.Bool.{Bool, true, false}
 use mathlib.Core.List.{List, [], _∷_}
 use mathlib.Core.Logic.{_⊎_, inl, inr, ⊎-elim}
@@ -9,6 +9,13 @@ use lib.Dec.{eqb, ltb}
 use borrow.Author.Tests.{ltb-true, ltb-false, eqb-true, eqb-false, lt-ltb, le-ltb, eq-eqb}
 use Rattle.meaning.specs.Words.{lex}
 use Rattle.laws.specs.Bools.{clash, eq?}
+
+-- two numbers are one, or one of them is the lower
+pub either-way : (a b : ℕ) → (a ≡ b) ⊎ ((a < b) ⊎ (b < a))
+either-way zero zero = inl refl
+either-way zero (suc b) = inr (inl (omega arith))
+either-way (suc a) zero = inr (inr (omega arith))
+either-way (suc a) (suc b) = ⊎-elim (λ (q : a ≡ b). inl (ap suc q)) (λ (s : (a < b) ⊎ (b < a)). ⊎-elim (λ (q : a < b). inr (inl (omega arith))) (λ (q : b < a). inr (inr (omega arith))) s) (either-way a b)
 
 -- n rows of which each has R to the next, for an R that carries on
 pub chain : (R : ℕ → ℕ → Type 0) → ((a b c : ℕ) → R a b → R b c → R a c) → (n : ℕ) → ((i : ℕ) → suc i < n → R i (suc i)) → (i j : ℕ) → j < i → i < n → R j i
