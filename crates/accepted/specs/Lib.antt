@@ -5,3 +5,4 @@ pub mod Tests
 pub mod Checked
 pub mod Columns
 pub mod Records
+pub mod Batches
