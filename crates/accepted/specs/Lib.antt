@@ -6,3 +6,4 @@ pub mod Checked
 pub mod Columns
 pub mod Records
 pub mod Batches
+pub mod Joins
