@@ -1,6 +1,6 @@
 -- What an answer 0 of each call tells: its whole list of facts, and that the row is 0; and the facts give the answer 0.
 use mathlib.Core.Path.{_≡_, ap, _∙_}
-use mathlib.Core.Bool.{Bool, true, false, not}
+use mathlib.Core.Bool.{true, not}
 use mathlib.Core.List.{List, [], _∷_}
 use Prim.Native.Nat.{ℕ, _<_}
 use native.Mathlib.Omega.{arith}
@@ -12,13 +12,13 @@ use Rattle.meaning.specs.Rows.{Tables, recordOf}
 use Rattle.meaning.specs.Forest.{Rules}
 use Rattle.meaning.specs.Answer.{Answer, Limits, done, refuse, lacks}
 use Rattle.meaning.specs.Lent.{fitThen}
-use Rattle.meaning.specs.Check.{check, checkThen, checkAllThen}
+use Rattle.meaning.specs.Check.{check}
 use Rattle.meaning.specs.Clean.{cleaned, nodeMap, cleanAnswer}
 use Rattle.meaning.specs.Join.{BatchTables, batchOf, batchShapes, batchSizes, batchRules, joined, joinAnswer}
 use Rattle.meaning.specs.Allele.{alleleAnswer}
 use Rattle.laws.specs.Bools.{not-no}
 use Rattle.laws.specs.Facts.{Good, Closed, JoinOk, CleanOk}
-use Rattle.accepted.specs.Refusals.{Accepted, done-accepted, passed, pass}
+use Rattle.accepted.specs.Refusals.{Accepted, passed, pass}
 use Rattle.accepted.specs.Checked.{Sound, Listed, sound-of, of-sound, all-sound-of, of-all-sound}
 use Rattle.accepted.specs.Records.{Young, good-of, closed-of, clean-ok-of}
 use Rattle.accepted.specs.Batches.{BatchSound, batch-sound-of, of-batch-sound}
@@ -56,7 +56,7 @@ module _ (rule : Rules) (m : Limits) (L : ℕ) (T : Tables) (S : List ℕ) (out 
     pub fits : Fits m (cleaned rule L T S) out
     pub map-fits : Room (m .nodes) (outMap ∷ []) (length (nodeMap rule L T S))
 
-  -- what comes after 1 to 12, and after the room of tables 1 to 4
+  -- what comes after the room of tables 1 to 4, and what after 1 to 12
   abbrev map-then : Answer
   map-then = refuse (lacks (m .nodes) (outMap ∷ []) (length (nodeMap rule L T S))) 13 6 done
 
@@ -96,7 +96,7 @@ module _ (m : Limits) (L : ℕ) (T : Tables) (B : BatchTables) (out : Tables) wh
     pub batch : BatchSound m L T B
     pub fits : Fits m (joined L T B) out
 
-  -- what comes after 20 to 26, and after 1 to 10
+  -- what comes after 20 to 26, and what after 1 to 10
   abbrev last-then : Answer
   last-then = fitThen m (joined L T B) out done
 
@@ -139,7 +139,7 @@ module _ (m : Limits) (L : ℕ) (T : Tables) (i b : ℕ) where
     pub site-row : i < length (T .sites .position)
     pub known : mem b (T .nodes .birth) ≡ true
 
-  -- what comes after 1 to 10, and after 41
+  -- what comes after 41, and what after 1 to 10
   abbrev known-then : Answer
   known-then = refuse (not (mem b (T .nodes .birth))) 42 0 done
 

@@ -1,6 +1,6 @@
 -- No two of the code's answers have one number and row, so a promise by number and row is met by one answer only.
 use mathlib.Core.Path.{_≡_, refl, sym, ap, _∙_}
-use mathlib.Core.Bool.{Bool, true, false}
+use mathlib.Core.Bool.{true, false}
 use Prim.Native.Nat.{ℕ}
 use lib.Dec.{eqb}
 use Rattle.meaning.specs.Answer.{Answer, Stated, accepted, refusalOf, checkedOf, alleleOf}
