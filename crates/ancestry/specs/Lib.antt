@@ -1,2 +1,5 @@
--- Words of the parents at a position, and laws on ancestors that code leans on.
+-- Words of the parents at a position, of marking upwards and of rule 10 by rows, and laws on ancestors.
 pub mod Column
+pub mod Ancestors
+pub mod Older
+pub mod Marks
