@@ -3,3 +3,4 @@ pub mod Column
 pub mod Ancestors
 pub mod Older
 pub mod Marks
+pub mod Coded
