@@ -14,7 +14,9 @@ use Rattle.meaning.specs.Words.{or, at, rows}
 use Rattle.meaning.specs.Forest.{Par, Ages, ancestor}
 use Rattle.laws.specs.Bools.{clash, bool-ext, eq?, some-inj, none-some, or-left, or-right}
 use Rattle.laws.specs.Counting.{length-rows, get-rows}
-use Rattle.ancestry.specs.Column.{parOf}
+use Rattle.ancestry.specs.Column.{no-row, parOf, older}
+use Rattle.ancestry.specs.Coded.{cell-none, cell-some}
+use Rattle.ancestry.specs.Older.{older-falls}
 use Rattle.ancestry.specs.Ancestors.{Above, here, step, Aged, ancestor-of, ancestor-none, ancestor-step}
 use Rattle.ancestry.specs.Marks.{bit, marked, Bits, Closed, ClosedBut, Upward, Markable, MarkedUp}
 
@@ -73,17 +75,21 @@ module _ (marks : List ℕ) (p : ℕ) (h : p < length marks) where
 
   pub set-bits : Bits marks → Bits (set marks p 1)
   unfolding bit
-  set-bits b = record { cell = λ v l. ⊎-elim
-      (λ (q : v ≡ p). rw q (getD-set-same marks p 1 0 h ∙ ap bit (sym set-marked)))
-      (λ (q : v ≡ p → ⊥). getD-set-other marks p v 1 0 q ∙ b .cell v (rw length-set at l) ∙ ap bit (sym (set-other v q)))
-      (eq? v p) }
+  set-bits b = record {
+    cell = λ v l. ⊎-elim
+        (λ (q : v ≡ p). rw q (getD-set-same marks p 1 0 h ∙ ap bit (sym set-marked)))
+        (λ (q : v ≡ p → ⊥). getD-set-other marks p v 1 0 q ∙ b .cell v (rw length-set at l) ∙ ap bit (sym (set-other v q)))
+        (eq? v p);
+  }
 
   module _ (P : Par) (u : ℕ) (e : P u ≡ some p) where
     pub set-closed : ClosedBut P u marks → ClosedBut P p (set marks p 1)
-    set-closed k = record { parent = λ v q n f m. ⊎-elim
-        (λ (z : v ≡ u). rw (some-inj (rw z at f) e) set-marked)
-        (λ (z : v ≡ u → ⊥). set-keeps q (k .parent v q z f (sym (set-other v n) ∙ m)))
-        (eq? v u) }
+    set-closed k = record {
+      parent = λ v q n f m. ⊎-elim
+          (λ (z : v ≡ u). rw (some-inj (rw z at f) e) set-marked)
+          (λ (z : v ≡ u → ⊥). set-keeps q (k .parent v q z f (sym (set-other v n) ∙ m)))
+          (eq? v u);
+    }
 
     -- u's parent is marked now, and what is above it after
     pub mark-on : (age : ℕ → ℕ) → Aged P age → (after : List ℕ) → MarkedUp P p (set marks p 1) after → MarkedUp P u marks after
@@ -95,3 +101,41 @@ module _ (marks : List ℕ) (p : ℕ) (h : p < length marks) where
         same : (v : ℕ) → (v ≡ p) ⊎ (v ≡ p → ⊥) → or (marked (set marks p 1) v) (ancestor P v p) ≡ or (marked marks v) (ancestor P v u)
         same v (inl q) = or-left {a = marked (set marks p 1) v} (ancestor P v p) (rw q set-marked) ∙ sym (or-right (marked marks v) (ancestor P v u) (ancestor-step P age ok v u p e ∙ or-left (ancestor P v p) (eq-eqb v p q)))
         same v (inr q) = ap₂ or (set-other v q) (sym (ancestor-step P age ok v u p e ∙ rw (ne-eqb v p q)))
+
+-- ---- as the function meets it
+
+module _ (time par marks : List ℕ) (u : ℕ) (k : Markable time par marks u) where
+  u-row : u < length par
+  u-row = omega (arith, k .row, k .upward .long)
+
+  pub no-parent : at par u ≡ no-row → MarkedUp (parOf par) u marks marks
+  no-parent e = mark-none (parOf par) u marks (k .bits) (k .closed) (cell-none par u u-row e)
+
+  module _ (n : at par u ≡ no-row → ⊥) where
+    pub parent-in : at par u < length time
+    parent-in = k .upward .row u (at par u) (cell-some par u u-row n)
+
+    pub parent-falls : older time (at par u) < older time u
+    parent-falls = older-falls time u (at par u) parent-in (k .upward .age u (at par u) (cell-some par u u-row n))
+
+    pub parent-next : Markable time par (set marks (at par u) 1) (at par u)
+    parent-next =
+        let h : at par u < length marks = omega (arith, parent-in, k .long) in
+        record {
+          upward = k .upward;
+          long = omega (arith, k .long, length-set marks (at par u) 1);
+          row = parent-in;
+          bits = set-bits marks (at par u) h (k .bits);
+          closed = set-closed marks (at par u) h (parOf par) u (cell-some par u u-row n) (k .closed);
+        }
+
+    module _ (young : (i : ℕ) → at time i < Ages) where
+      pub parent-marked : at marks (at par u) ≡ 1 → MarkedUp (parOf par) u marks marks
+      unfolding marked
+      parent-marked e = mark-stop (parOf par) (at time) (aged (k .upward) young) u (at par u) (cell-some par u u-row n) marks (k .bits) (k .closed) (eq-eqb (at marks (at par u)) 1 e)
+
+      pub parent-on : (after : List ℕ) → MarkedUp (parOf par) (at par u) (set marks (at par u) 1) after → MarkedUp (parOf par) u marks after
+      parent-on after m = mark-on marks (at par u) (omega (arith, parent-in, k .long)) (parOf par) u (cell-some par u u-row n) (at time) (aged (k .upward) young) after m
+
+pub lt-eq : {a b t : ℕ} → a < b → b ≡ t → a < t
+lt-eq h e = omega arith

@@ -4,7 +4,8 @@ ghost use Prim.Native.Nat.{ℕ, _<_, _≤_};
 ghost use lib.ListN.{length, replicate};
 ghost use Rattle.meaning.specs.Words.{rows};
 ghost use Rattle.meaning.specs.Rows.{EdgeColumns};
-ghost use Rattle.ancestry.specs.Column.{code, parentRow, Fitting};
+ghost use Rattle.ancestry.specs.Column.{code, parOf, parentRow, Fitting};
+ghost use Rattle.ancestry.specs.Marks.{Markable, MarkedUp};
 
 // A column with a parent row for each node row.
 pub struct ParentColumn {
@@ -49,4 +50,21 @@ pub fn parents_at(
             }
         }
     }
+}
+
+// Marks every proper ancestor of row u along par. It calls itself; the number of older nodes falls.
+// What is marked is closed upwards, so the first mark met ends the way.
+pub fn mark_up(time: &[u32], par: &[u32], marks: &mut [u8], u: u32)
+    requires { ⌜ Markable (now time) (now par) (now marks) u ⌝ }
+    ensures { λ _. ⌜ MarkedUp (parOf (now (par .entry))) u (now (marks .entry)) (now (marks .exit)) ⌝ }
+{
+    let p = par[u as usize];
+    if p == ParentColumn::NONE {
+        return;
+    }
+    if marks[p as usize] == 1 {
+        return;
+    }
+    marks[p as usize] = 1;
+    mark_up(time, par, marks, p);
 }
