@@ -4,3 +4,4 @@ pub mod Ancestors
 pub mod Older
 pub mod Marks
 pub mod Coded
+pub mod Overtaken

@@ -2,10 +2,11 @@
 ghost use mathlib.Core.Path.{_≡_};
 ghost use Prim.Native.Nat.{ℕ, _<_, _≤_};
 ghost use lib.ListN.{length, replicate};
-ghost use Rattle.meaning.specs.Words.{rows};
+ghost use Rattle.meaning.specs.Words.{at, rows, lowest};
 ghost use Rattle.meaning.specs.Rows.{EdgeColumns};
 ghost use Rattle.ancestry.specs.Column.{code, parOf, parentRow, Fitting};
 ghost use Rattle.ancestry.specs.Marks.{Markable, MarkedUp};
+ghost use Rattle.ancestry.specs.Overtaken.{starts, overtaken, Ordered, TakenUp};
 
 // A column with a parent row for each node row.
 pub struct ParentColumn {
@@ -67,4 +68,48 @@ pub fn mark_up(time: &[u32], par: &[u32], marks: &mut [u8], u: u32)
     }
     marks[p as usize] = 1;
     mark_up(time, par, marks, p);
+}
+
+// Takes every mark off.
+fn clear_marks(marks: &mut [u8])
+    ensures { λ _. ⌜ now (marks .exit) ≡ replicate (length (now (marks .entry))) 0 ⌝ }
+{
+    let mut i = 0;
+    while i < marks.len() {
+        marks[i] = 0;
+        i += 1;
+    }
+}
+
+// Whether mutation row i has another site than the row before.
+fn starts_site(site: &[u32], i: usize) -> bool
+    requires { ⌜ i < length (now site) ⌝ }
+    ensures { λ r. ⌜ r ≡ starts (now (site .entry)) i ⌝ }
+{
+    if i == 0 {
+        return true;
+    }
+    site[i - 1] != site[i]
+}
+
+// Makes ready for mutation row i: at a new site the parents are filled and the marks taken off, once for the site.
+fn take_up(
+    left: &[u32],
+    right: &[u32],
+    parent: &[u32],
+    child: &[u32],
+    position: &[u32],
+    site: &[u32],
+    i: usize,
+    par: &mut [u32],
+    marks: &mut [u8],
+)
+    requires { ⌜ Fitting (record { left = now left; right = now right; parent = now parent; child = now child }) (length (now par)) × (i < length (now site)) × (at (now site) i < length (now position)) ⌝ }
+    ensures { λ _. ⌜ TakenUp (record { left = now (left .entry); right = now (right .entry); parent = now (parent .entry); child = now (child .entry) }) (now (position .entry)) (now (site .entry)) i (now (par .entry)) (now (marks .entry)) (now (par .exit)) (now (marks .exit)) ⌝ }
+{
+    if starts_site(site, i) {
+        let x = position[site[i] as usize];
+        parents_at(left, right, parent, child, x, par);
+        clear_marks(marks);
+    }
 }
