@@ -2,3 +2,4 @@
 pub mod Filling
 pub mod Marking
 pub mod Overtaking
+pub mod Ready

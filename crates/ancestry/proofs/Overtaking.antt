@@ -33,7 +33,7 @@ module _ (site : List ℕ) where
   later-starts (suc k) n = let q : suc k - 1 ≡ k = omega arith in ap (λ j. not (eqb (at site j) (at site (suc k)))) q
 
   -- a row that starts no site has the site of the row before
-  goes-on : (i : ℕ) → starts site i ≡ false → (0 < i) × (at site (i - 1) ≡ at site i)
+  pub goes-on : (i : ℕ) → starts site i ≡ false → (0 < i) × (at site (i - 1) ≡ at site i)
   unfolding starts
   goes-on zero h = absurd (clash refl h)
   goes-on (suc k) h =
@@ -60,7 +60,7 @@ module _ (site : List ℕ) where
 
 module _ (E : EdgeColumns) (position site node : List ℕ) where
   -- one more mutation of the site
-  over-next : (s i v : ℕ) → at site i ≡ s → over E position site node s (i + 1) v ≡ or (over E position site node s i v) (ancestor (parentRow E (at position s)) v (at node i))
+  pub over-next : (s i v : ℕ) → at site i ≡ s → over E position site node s (i + 1) v ≡ or (over E position site node s i v) (ancestor (parentRow E (at position s)) v (at node i))
   unfolding over
   over-next s i v e =
       let q : i + 1 ≡ suc i = omega arith in
@@ -78,7 +78,7 @@ module _ (E : EdgeColumns) (position site node : List ℕ) where
           none false = refl
 
   -- none where the site starts
-  over-start : (sites nodes : ℕ) → Lined sites nodes site node → (i v : ℕ) → i < length site → starts site i ≡ true → over E position site node (at site i) i v ≡ false
+  pub over-start : (sites nodes : ℕ) → Lined sites nodes site node → (i v : ℕ) → i < length site → starts site i ≡ true → over E position site node (at site i) i v ≡ false
   unfolding over
   over-start sites nodes ok i v l s =
       not-true (anyBelow f i) (λ h.
