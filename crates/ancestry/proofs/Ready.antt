@@ -109,3 +109,13 @@ module _ (E : EdgeColumns) (position site node : List ℕ) where
 
     pub ready-taken : (0 < i → Ready E position site node (at site (i - 1)) i par marks) → Ready E position site node (at site i) i par' marks'
     ready-taken r = ⊎-elim (λ (s : starts site i ≡ true). ready-anew s) (λ (s : starts site i ≡ false). ready-kept s r) (truth (starts site i))
+
+-- ---- as the loop meets it
+
+-- the working column takes every child
+pub ordered-fits : {time : List ℕ} {E : EdgeColumns} {position site node : List ℕ} {cells : ℕ} → Ordered time E position site node cells → (par : List ℕ) → length par ≡ cells → Fitting E (length par)
+ordered-fits o par q = record { even = o .rising .even; child-row = λ e l. omega (arith, o .rising .child-row e l, o .room) }
+
+-- the row before the next is this one
+pub ready-before : {E : EdgeColumns} {position site node : List ℕ} (i : ℕ) {par marks : List ℕ} → Ready E position site node (at site i) (i + 1) par marks → 0 < i + 1 → Ready E position site node (at site (i + 1 - 1)) (i + 1) par marks
+ready-before {E} {position} {site} {node} i {par} {marks} r h = let q : i ≡ i + 1 - 1 = omega arith in subst (λ k. Ready E position site node (at site k) (i + 1) par marks) q r

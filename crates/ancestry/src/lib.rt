@@ -113,3 +113,33 @@ fn take_up(
         clear_marks(marks);
     }
 }
+
+// The lowest mutation row that is above an earlier one of its site, or the number of rows; par and marks are working columns.
+// Each site's parents are filled once, and each node is marked once for a site.
+fn lowest_above(
+    time: &[u32],
+    left: &[u32],
+    right: &[u32],
+    parent: &[u32],
+    child: &[u32],
+    position: &[u32],
+    site: &[u32],
+    node: &[u32],
+    par: &mut [u32],
+    marks: &mut [u8],
+) -> usize
+    requires { ⌜ Ordered (now time) (record { left = now left; right = now right; parent = now parent; child = now child }) (now position) (now site) (now node) (length (now par)) × (length (now marks) ≡ length (now par)) ⌝ }
+    ensures { λ r. ⌜ r ≡ lowest (overtaken (record { left = now (left .entry); right = now (right .entry); parent = now (parent .entry); child = now (child .entry) }) (now (position .entry)) (now (site .entry)) (now (node .entry))) (length (now (site .entry))) ⌝ }
+{
+    let mut i = 0;
+    while i < site.len() {
+        take_up(left, right, parent, child, position, site, i, par, marks);
+        let u = node[i];
+        if marks[u as usize] == 1 {
+            return i;
+        }
+        mark_up(time, par, marks, u);
+        i += 1;
+    }
+    site.len()
+}
