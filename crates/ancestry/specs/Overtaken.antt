@@ -1,11 +1,11 @@
 -- Rule 10 by rows: what a site's marks say of the mutations gone over, and what rules 1 and 9 find of the mutations.
-use mathlib.Core.Path.{_≡_, refl}
+use mathlib.Core.Path.{_≡_, refl, ap, fun-ext}
 use mathlib.Core.Bool.{Bool, true, false, not}
 use mathlib.Core.List.{List}
 use Prim.Native.Nat.{ℕ, zero, suc, _<_, _≤_}
 use lib.Dec.{eqb}
 use lib.ListN.{length, replicate}
-use Rattle.meaning.specs.Words.{and, at, anyBelow, rows}
+use Rattle.meaning.specs.Words.{and, at, anyBelow, lowest, rows}
 use Rattle.meaning.specs.Rows.{EdgeColumns, MutationColumns, edgesOf}
 use Rattle.meaning.specs.Forest.{parentIn, ancestor}
 use Rattle.meaning.specs.Check.{mutationAbove, overtakes}
@@ -26,6 +26,9 @@ overtaken E position site node i = over E position site node (at site i) i (at n
 pub rule-10 : (E : EdgeColumns) (position : List ℕ) (M : MutationColumns) (i : ℕ) → overtaken E position (M .site) (M .node) i ≡ mutationAbove (edgesOf (λ r. r) E) position (λ r. r) M i
 unfolding overtaken over mutationAbove overtakes parentRow
 rule-10 E position M i = refl
+
+pub lowest-10 : (E : EdgeColumns) (position : List ℕ) (M : MutationColumns) (n : ℕ) → lowest (overtaken E position (M .site) (M .node)) n ≡ lowest (mutationAbove (edgesOf (λ r. r) E) position (λ r. r) M) n
+lowest-10 E position M n = ap (λ f. lowest f n) (fun-ext (rule-10 E position M))
 
 -- mutation row i has another site than the row before
 unfoldable pub starts : List ℕ → ℕ → Bool

@@ -3,10 +3,12 @@ ghost use mathlib.Core.Path.{_≡_};
 ghost use Prim.Native.Nat.{ℕ, _<_, _≤_};
 ghost use lib.ListN.{length, replicate};
 ghost use Rattle.meaning.specs.Words.{at, rows, lowest};
-ghost use Rattle.meaning.specs.Rows.{EdgeColumns};
-ghost use Rattle.ancestry.specs.Column.{code, parOf, parentRow, Fitting};
+ghost use Rattle.meaning.specs.Rows.{EdgeColumns, MutationColumns, edgesOf};
+ghost use Rattle.meaning.specs.Answer.{limits};
+ghost use Rattle.meaning.specs.Check.{mutationAbove};
+ghost use Rattle.ancestry.specs.Column.{code, parOf, parentRow, Fitting, Rising};
 ghost use Rattle.ancestry.specs.Marks.{Markable, MarkedUp};
-ghost use Rattle.ancestry.specs.Overtaken.{starts, overtaken, Ordered, TakenUp};
+ghost use Rattle.ancestry.specs.Overtaken.{starts, overtaken, Lined, Ordered, TakenUp};
 
 // A column with a parent row for each node row.
 pub struct ParentColumn {
@@ -142,4 +144,36 @@ fn lowest_above(
         i += 1;
     }
     site.len()
+}
+
+// 01's rule 10 by rows: the lowest mutation row whose node is a proper ancestor, at its site's position, of the node of an earlier
+// mutation at that site, or the number of rows.
+pub fn first_above(
+    time: &[u32],
+    left: &[u32],
+    right: &[u32],
+    parent: &[u32],
+    child: &[u32],
+    position: &[u32],
+    site: &[u32],
+    node: &[u32],
+    derived: &[u8],
+) -> usize
+    requires { ⌜ (length (now time) ≤ limits .nodes) × Rising (now time) (record { left = now left; right = now right; parent = now parent; child = now child }) × Lined (length (now position)) (length (now time)) (now site) (now node) ⌝ }
+    ensures { λ r. ⌜ r ≡ lowest (mutationAbove (edgesOf (λ x. x) (record { left = now (left .entry); right = now (right .entry); parent = now (parent .entry); child = now (child .entry) })) (now (position .entry)) (λ x. x) (record { site = now (site .entry); node = now (node .entry); derived = now (derived .entry) })) (length (now (site .entry))) ⌝ }
+{
+    let mut par = [0u32; meaning::NodeTable::MOST];
+    let mut marks = [0u8; meaning::NodeTable::MOST];
+    lowest_above(
+        time,
+        left,
+        right,
+        parent,
+        child,
+        position,
+        site,
+        node,
+        &mut par,
+        &mut marks,
+    )
 }
