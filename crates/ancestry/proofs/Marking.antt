@@ -2,23 +2,23 @@
 use mathlib.Core.Path.{_≡_, refl, sym, ap, ap₂, fun-ext, _∙_}
 use mathlib.Core.Bool.{Bool, true, false}
 use mathlib.Core.List.{List}
-use mathlib.Core.Option.{Option, none, some}
+use mathlib.Core.Option.{none, some}
 use mathlib.Core.Logic.{_⊎_, inl, inr, ⊎-elim}
-use Prim.Native.Nat.{ℕ, _<_, _≤_}
+use Prim.Native.Nat.{ℕ, _<_}
 use native.Mathlib.Omega.{arith}
 use lib.Dec.{eqb}
 use lib.ListN.{length, set, length-set}
 use lib.Seq.{ext-getD, getD-set-same, getD-set-other}
-use borrow.Author.Tests.{eq-eqb, ne-eqb, eqb-true}
+use borrow.Author.Tests.{eq-eqb, ne-eqb}
 use Rattle.meaning.specs.Words.{or, at, rows}
 use Rattle.meaning.specs.Forest.{Par, Ages, ancestor}
-use Rattle.laws.specs.Bools.{clash, bool-ext, eq?, some-inj, none-some, or-left, or-right}
+use Rattle.laws.specs.Bools.{clash, eq?, some-inj, none-some, or-left, or-right}
 use Rattle.laws.specs.Counting.{length-rows, get-rows}
 use Rattle.ancestry.specs.Column.{no-row, parOf, older}
 use Rattle.ancestry.specs.Coded.{cell-none, cell-some}
 use Rattle.ancestry.specs.Older.{older-falls}
 use Rattle.ancestry.specs.Ancestors.{Above, here, step, Aged, ancestor-of, ancestor-none, ancestor-step}
-use Rattle.ancestry.specs.Marks.{bit, marked, Bits, Closed, ClosedBut, Upward, Markable, MarkedUp}
+use Rattle.ancestry.specs.Marks.{bit, marked, Bits, ClosedBut, Upward, Markable, MarkedUp}
 
 -- times below Ages make the column's forest aged
 pub aged : {time par : List ℕ} → Upward time par → ((i : ℕ) → at time i < Ages) → Aged (parOf par) (at time)

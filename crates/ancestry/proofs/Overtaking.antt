@@ -1,24 +1,20 @@
 -- Rule 10 row by row: what the marks of a site say of its mutations, and how one more mutation keeps that so.
-use mathlib.Core.Path.{_≡_, refl, sym, ap, ap₂, subst, _∙_}
+use mathlib.Core.Path.{_≡_, refl, sym, ap, _∙_}
 use mathlib.Core.Bool.{Bool, true, false, not}
-use mathlib.Core.List.{List, [], _∷_}
-use mathlib.Core.Option.{Option, none, some}
-use mathlib.Core.Logic.{_⊎_, inl, inr, ⊎-elim}
+use mathlib.Core.List.{List}
+use mathlib.Core.Logic.{_⊎_, ⊎-elim}
 use Prim.Native.Nat.{ℕ, zero, suc, _+_, _-_, _<_, _≤_}
 use native.Mathlib.Omega.{arith}
 use lib.Dec.{eqb}
-use lib.ListN.{length, getD, replicate, length-replicate, getD-replicate}
-use lib.Seq.{ext-getD}
-use borrow.Author.Tests.{eq-eqb, ne-eqb, eqb-true, eqb-false}
+use lib.ListN.{length, replicate}
+use borrow.Author.Tests.{eq-eqb, eqb-true, eqb-false}
 use Rattle.meaning.specs.Words.{and, or, at, anyBelow, rows}
 use Rattle.meaning.specs.Rows.{EdgeColumns}
 use Rattle.meaning.specs.Forest.{ancestor}
-use Rattle.laws.specs.Bools.{clash, truth, eq?, and-of, or-right, not-of, not-no, not-true}
-use Rattle.laws.specs.Counting.{length-rows, get-rows, below-hit, below-miss, below-of}
-use Rattle.ancestry.specs.Column.{no-row, code, parOf, parentRow, Fitting, Rising}
-use Rattle.ancestry.specs.Coded.{parents-coded, parents-upward}
-use Rattle.ancestry.specs.Marks.{bit, marked, Bits, Closed, ClosedBut, Markable, MarkedUp}
-use Rattle.ancestry.specs.Overtaken.{over, overtaken, starts, Lined, Ordered, TakenUp}
+use Rattle.laws.specs.Bools.{clash, eq?, and-of, or-right, not-of, not-no, not-true}
+use Rattle.laws.specs.Counting.{below-hit, below-miss, below-of}
+use Rattle.ancestry.specs.Column.{code, parentRow}
+use Rattle.ancestry.specs.Overtaken.{over, starts, Lined, TakenUp}
 
 -- ---- where a site starts
 
@@ -71,11 +67,11 @@ module _ (E : EdgeColumns) (position site node : List ℕ) where
 
       go : (t : Bool) → ancestor (parentRow E (at position s)) v (at node i) ≡ t → anyBelow f (suc i) ≡ or (anyBelow f i) t
       go true a = below-hit f i (rw (eq-eqb (at site i) s e) a) ∙ sym (or-right (anyBelow f i) true refl)
-      go false a = below-miss f i (rw (eq-eqb (at site i) s e) a) ∙ none (anyBelow f i)
+      go false a = below-miss f i (rw (eq-eqb (at site i) s e) a) ∙ or-false (anyBelow f i)
         where
-          none : (b : Bool) → b ≡ or b false
-          none true = refl
-          none false = refl
+          or-false : (b : Bool) → b ≡ or b false
+          or-false true = refl
+          or-false false = refl
 
   -- none where the site starts
   pub over-start : (sites nodes : ℕ) → Lined sites nodes site node → (i v : ℕ) → i < length site → starts site i ≡ true → over E position site node (at site i) i v ≡ false

@@ -1,23 +1,21 @@
 -- The working columns as the loop over the mutations keeps them: a site's parents, and its marks by the mutations gone over.
 use mathlib.Core.Path.{_≡_, refl, sym, ap, ap₂, subst, _∙_}
-use mathlib.Core.Bool.{Bool, true, false, not}
-use mathlib.Core.List.{List, [], _∷_}
-use mathlib.Core.Option.{Option, none, some}
-use mathlib.Core.Logic.{_⊎_, inl, inr, ⊎-elim}
+use mathlib.Core.Bool.{Bool, true, false}
+use mathlib.Core.List.{List}
+use mathlib.Core.Logic.{_⊎_, ⊎-elim}
 use Prim.Native.Nat.{ℕ, zero, suc, _+_, _-_, _<_, _≤_}
 use native.Mathlib.Omega.{arith}
 use lib.Dec.{eqb}
-use lib.ListN.{length, getD, replicate, length-replicate, getD-replicate}
-use lib.Seq.{ext-getD}
-use borrow.Author.Tests.{eq-eqb, ne-eqb, eqb-true, eqb-false}
-use Rattle.meaning.specs.Words.{and, or, at, rows}
+use lib.ListN.{length, replicate}
+use borrow.Author.Tests.{eq-eqb, ne-eqb}
+use Rattle.meaning.specs.Words.{or, at, rows}
 use Rattle.meaning.specs.Rows.{EdgeColumns}
 use Rattle.meaning.specs.Forest.{ancestor}
-use Rattle.laws.specs.Bools.{clash, truth, not-true}
+use Rattle.laws.specs.Bools.{clash, truth}
 use Rattle.laws.specs.Counting.{length-rows, get-rows}
 use Rattle.ancestry.specs.Column.{no-row, code, parOf, parentRow, Fitting, Rising}
 use Rattle.ancestry.specs.Coded.{parents-coded, parents-upward}
-use Rattle.ancestry.specs.Marks.{bit, marked, Bits, Closed, ClosedBut, Markable, MarkedUp}
+use Rattle.ancestry.specs.Marks.{bit, marked, Bits, Closed, Markable, MarkedUp}
 use Rattle.ancestry.specs.Overtaken.{over, overtaken, starts, Lined, Ordered, TakenUp}
 use Rattle.ancestry.proofs.Overtaking.{goes-on, over-next, over-start}
 

@@ -5,3 +5,4 @@ pub mod Older
 pub mod Marks
 pub mod Coded
 pub mod Overtaken
+pub mod Births

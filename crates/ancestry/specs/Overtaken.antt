@@ -7,10 +7,9 @@ use lib.Dec.{eqb}
 use lib.ListN.{length, replicate}
 use Rattle.meaning.specs.Words.{and, at, anyBelow, lowest, rows}
 use Rattle.meaning.specs.Rows.{EdgeColumns, MutationColumns, edgesOf}
-use Rattle.meaning.specs.Forest.{parentIn, ancestor}
+use Rattle.meaning.specs.Forest.{ancestor}
 use Rattle.meaning.specs.Check.{mutationAbove, overtakes}
 use Rattle.ancestry.specs.Column.{no-row, code, parentRow, Rising}
-use Rattle.ancestry.specs.Marks.{bit, Closed}
 
 -- v is a proper ancestor, at site row s, of the node of one of the first i mutations at that site
 unfoldable pub over : EdgeColumns → List ℕ → List ℕ → List ℕ → ℕ → ℕ → ℕ → Bool

@@ -4,7 +4,7 @@ use native.Mathlib.Omega.{arith}
 use borrow.Author.Needs.{needs}
 use Rattle.ancestry.specs.Column.{older}
 use Prim.Native.Nat.{ℕ, _<_}
-use mathlib.Core.Path.{_∙_, sym}
+use mathlib.Core.Path.{_∙_}
 use lib.ListN.{length-set}
 use Rattle.meaning.specs.Words.{at}
 use borrow.Fn.Kinds.{In}

@@ -1,5 +1,5 @@
 -- `ancestry::clear_marks` meets its contract: the cells passed hold 0, the others are as they were.
-use mathlib.Core.Path.{_≡_, refl, sym, ap, _∙_}
+use mathlib.Core.Path.{_≡_, ap, _∙_}
 use mathlib.Core.List.{List, _++_}
 use Prim.Native.Nat.{ℕ, _<_, _≤_, _-_}
 use lib.ListN.{length, drop, set, replicate}
@@ -9,8 +9,6 @@ use native.Mathlib.Omega.{arith}
 use borrow.Author.Needs.{needs}
 use Rattle.ancestry.proofs.clear_marks.Statement.{statement}
 use Rattle.ancestry.proofs.clear_marks.Tie as tie
-use Rattle.ancestry.proofs.clear_marks.Reads as reads
-use Rattle.ancestry.proofs.clear_marks.Lts as lts
 
 abbrev Inv-loop : tie.InvT-loop
 Inv-loop marks₀ i₀ marks i = (i ≤ length marks₀) × (length marks ≡ length marks₀) × (marks ≡ replicate i 0 ++ drop i marks₀)

@@ -1,13 +1,9 @@
 -- `ancestry::first_above` meets its contract: the working columns stand on the stack, and rule 10 by rows is the definition's.
 use mathlib.Core.Path.{_∙_}
 use Rattle.ancestry.specs.Overtaken.{lowest-10}
-use native.Mathlib.Omega.{arith}
 use borrow.Author.Needs.{needs}
 use Rattle.ancestry.proofs.first_above.Statement.{statement}
 use Rattle.ancestry.proofs.first_above.Tie as tie
-use Rattle.ancestry.proofs.first_above.Reads as reads
-use Rattle.ancestry.proofs.first_above.Lts as lts
-use Rattle.ancestry.proofs.lowest_above.Reads as lowest-above-reads
 
 slice-aggregate-lowest-above : tie.Need-slice-aggregate-lowest-above
 slice-aggregate-lowest-above c = search needs

@@ -1,7 +1,7 @@
 -- `ancestry::lowest_above` meets its contract: the columns stay ready for the next row, and a row's own mark decides.
-use mathlib.Core.Path.{_≡_, refl, sym, ap, _∙_}
+use mathlib.Core.Path.{_≡_, refl, _∙_}
 use mathlib.Core.List.{List}
-use Prim.Native.Nat.{ℕ, _+_, _<_, _≤_, _-_}
+use Prim.Native.Nat.{ℕ, _<_, _≤_, _-_}
 use lib.ListN.{length}
 use Rattle.meaning.specs.Words.{at}
 use Rattle.meaning.specs.Rows.{EdgeColumns}
@@ -12,10 +12,6 @@ use native.Mathlib.Omega.{arith}
 use borrow.Author.Needs.{needs}
 use Rattle.ancestry.proofs.lowest_above.Statement.{statement}
 use Rattle.ancestry.proofs.lowest_above.Tie as tie
-use Rattle.ancestry.proofs.lowest_above.Reads as reads
-use Rattle.ancestry.proofs.lowest_above.Lts as lts
-use Rattle.ancestry.proofs.mark_up.Reads as mark-up-reads
-use Rattle.ancestry.proofs.take_up.Reads as take-up-reads
 
 abbrev edges : List ℕ → List ℕ → List ℕ → List ℕ → EdgeColumns
 edges l r p c = record { left = l; right = r; parent = p; child = c }

@@ -1,11 +1,8 @@
 -- `ancestry::starts_site` meets its contract.
 use Rattle.ancestry.proofs.Overtaking.{first-starts, later-starts}
-use native.Mathlib.Omega.{arith}
 use borrow.Author.Needs.{needs}
 use Rattle.ancestry.proofs.starts_site.Statement.{statement}
 use Rattle.ancestry.proofs.starts_site.Tie as tie
-use Rattle.ancestry.proofs.starts_site.Reads as reads
-use Rattle.ancestry.proofs.starts_site.Lts as lts
 
 returns : tie.Need-returns
 returns c = first-starts _ _ (c .if1 .taken)

@@ -1,15 +1,9 @@
 -- `ancestry::take_up` meets its contract: by the one branch the site is taken up anew, by the other nothing changes.
 use mathlib.Core.Path.{sym, _∙_}
 use Rattle.ancestry.proofs.Overtaking.{taken-anew, taken-kept}
-use native.Mathlib.Omega.{arith}
 use borrow.Author.Needs.{needs}
 use Rattle.ancestry.proofs.take_up.Statement.{statement}
 use Rattle.ancestry.proofs.take_up.Tie as tie
-use Rattle.ancestry.proofs.take_up.Reads as reads
-use Rattle.ancestry.proofs.take_up.Lts as lts
-use Rattle.ancestry.proofs.clear_marks.Reads as clear-marks-reads
-use Rattle.ancestry.proofs.parents_at.Reads as parents-at-reads
-use Rattle.ancestry.proofs.starts_site.Reads as starts-site-reads
 
 starts-site-requires : tie.Need-starts-site-requires
 starts-site-requires c κs = search needs
