@@ -17,13 +17,6 @@ use Rattle.laws.specs.Counting.{length-rows, get-rows}
 use Rattle.bridge.specs.Sites.{mutationRow, any-end, any-hit, any-miss, last-end, last-hit, last-miss}
 use Rattle.alleles.specs.Marks.{Naming, mark, markAfter, stateAfter, marksOf, statesOf}
 
--- a column filled up to its end is filled
-pub all-filled : (i v : ℕ) (d : List ℕ) → i ≤ length d → length d ≤ i → replicate i v ++ drop i d ≡ replicate (length d) v
-all-filled zero v [] h l = refl
-all-filled zero v (x ∷ d) h l = absurd (omega arith)
-all-filled (suc i) v [] h l = absurd (omega arith)
-all-filled (suc i) v (x ∷ d) h l = ap (λ (t : List ℕ). v ∷ t) (all-filled i v d (omega arith) (omega arith))
-
 -- rows made alike below n are the same
 pub rows-same : (f g : ℕ → ℕ) (n : ℕ) → ((v : ℕ) → v < n → f v ≡ g v) → rows f n ≡ rows g n
 rows-same f g n h = ext-getD 0 (rows f n) (rows g n) (length-rows f n ∙ sym (length-rows g n)) (λ v l. let k : v < n = omega (arith, length-rows f n) in get-rows f 0 n v k ∙ h v k ∙ sym (get-rows g 0 n v k))

@@ -1,2 +1,3 @@
--- What the reading of an allele works on.
+-- What the reading of an allele works on, and what it finds.
 pub mod Marks
+pub mod Reading

@@ -4,7 +4,6 @@ use mathlib.Core.Bool.{Bool, true, false}
 use mathlib.Core.List.{List, [], _∷_}
 use mathlib.Core.Option.{Option, none, some}
 use Prim.Native.Nat.{ℕ, _<_, _≤_}
-use lib.Dec.{eqb}
 use lib.ListN.{length}
 use Rattle.meaning.specs.Words.{at, mem, indexOf, rows}
 use Rattle.meaning.specs.Rows.{MutationColumns, mutsOf}
@@ -42,10 +41,6 @@ markAfter M i has v = mark (carries (mutsOf (λ r. r) M) i v) (at has v)
 unfoldable pub stateAfter : MutationColumns → ℕ → List ℕ → ℕ → ℕ
 unfolding lastState mutsOf
 stateAfter M i state v = lastState i v (mutsOf (λ r. r) M) (at state v)
-
--- the row has the mark 1
-unfoldable pub marked : List ℕ → ℕ → Bool
-marked has v = eqb (at has v) 1
 
 -- the marks of n rows at site row i
 unfoldable pub marksOf : MutationColumns → ℕ → ℕ → List ℕ

@@ -4,7 +4,11 @@ ghost use Prim.Native.Nat.{ℕ, _<_, _≤_};
 ghost use lib.ListN.{length, replicate};
 ghost use Rattle.meaning.specs.Words.{rows};
 ghost use Rattle.meaning.specs.Rows.{MutationColumns};
+ghost use Rattle.meaning.specs.Forest.{near};
+ghost use Rattle.ancestry.specs.Column.{older, parOf};
+ghost use Rattle.ancestry.specs.Marks.{marked};
 ghost use Rattle.alleles.specs.Marks.{foundOf, rowOf, markAfter, stateAfter, Naming, marksOf, statesOf};
+ghost use Rattle.alleles.specs.Reading.{Climbable, carriedBy};
 
 // A node row that is looked for.
 pub enum Found {
@@ -70,4 +74,19 @@ pub fn marks_at(
     clear(has, 0);
     clear(state, other);
     fill(site, node, derived, i, has, state);
+}
+
+// The first row at or above u that is marked. It calls itself; the number of older rows falls.
+pub fn carrier(time: &[u32], par: &[u32], has: &[u8], u: u32) -> Found
+    requires { ⌜ Climbable (now time) (now par) (now has) u ⌝ }
+    ensures { λ r. ⌜ ((k : ℕ) → older (now (time .entry)) u < k → foundOf r ≡ near (parOf (now (par .entry))) (marked (now (has .entry))) k u) ⌝ }
+{
+    if has[u as usize] == 1 {
+        return Found::At(u);
+    }
+    let p = par[u as usize];
+    if p == ancestry::ParentColumn::NONE {
+        return Found::Nothing;
+    }
+    carrier(time, par, has, p)
 }
