@@ -1,4 +1,4 @@
--- Filling columns: with one value, and with the marks and states of the mutations gone over so far.
+-- Filling columns with the marks and states of the mutations gone over so far.
 use mathlib.Core.Path.{_≡_, refl, sym, ap, ap₂, subst₂, _∙_}
 use mathlib.Core.Bool.{Bool, true, false}
 use mathlib.Core.List.{List, [], _∷_, _++_}

@@ -21,7 +21,6 @@ pub record Climbable (time par has : List ℕ) (u : ℕ) : Type 0 where
 
 -- the state of the first marked row at or above u, or the other where there is none
 unfoldable pub carriedBy : List ℕ → List ℕ → List ℕ → ℕ → ℕ → ℕ
-unfolding near parOf marked
 carriedBy par has state other u = elim (near (parOf par) (marked has) Ages u) [ none ↦ other | some w ↦ at state w ]
 
 -- what filling the columns of a site asks: m cells each, and rows below m
