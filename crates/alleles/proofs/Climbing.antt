@@ -11,12 +11,16 @@ use borrow.Author.Tests.{eq-eqb, ne-eqb}
 use Rattle.meaning.specs.Words.{at, count, rows}
 use Rattle.meaning.specs.Forest.{Ages, near}
 use Rattle.laws.specs.Counting.{length-rows}
-use Rattle.bridge.specs.Rename.{near-here, near-top, near-step}
+use Rattle.bridge.specs.Rename.{near-here, near-top, near-step, near-inside}
 use Rattle.ancestry.specs.Column.{no-row, parOf, older}
 use Rattle.ancestry.specs.Older.{older-falls}
 use Rattle.ancestry.specs.Marks.{marked, Upward}
 use Rattle.ancestry.specs.Coded.{cell-none, cell-some}
+use Rattle.alleles.specs.declared.Found.{Found}
+use Rattle.alleles.specs.declared.Found.the-variants.{At, Nothing}
+use Rattle.alleles.specs.Marks.{foundOf}
 use Rattle.alleles.specs.Reading.{Climbable, carriedBy}
+use Rattle.alleles.specs.ByRows.{carried-none, carried-some}
 
 pub lt-eq : {a b t : ℕ} → a < b → b ≡ t → a < t
 lt-eq h e = omega arith
@@ -65,3 +69,19 @@ count-few f (b ∷ l) = go (f b) refl (count-few f l)
 pub older-few : (time : List ℕ) (u : ℕ) → older time u ≤ length time
 unfolding older
 older-few time u = omega (arith, count-few (λ v. ltb (at time u) (at time v)) (rows (λ v. v) (length time)), length-rows (λ v. v) (length time))
+
+-- ---- what was found on the way
+
+module _ (time par has : List ℕ) (u : ℕ) (ok : Climbable time par has u) (few : length time ≤ no-row) (r : Found) (h : (k : ℕ) → older time u < k → foundOf r ≡ near (parOf par) (marked has) k u) where
+  near-is : foundOf r ≡ near (parOf par) (marked has) Ages u
+  near-is = h Ages (omega (arith, older-few time u))
+
+  -- a row that was found exists
+  pub found-row : (w : ℕ) → r ≡ At w → w < length time
+  found-row w e = near-inside (length time) (parOf par) (λ v p l q. ok .upward .row v p q) (marked has) Ages u w (ok .row) (sym near-is ∙ ap foundOf e) .0
+
+  pub found-state : (state : List ℕ) (other w : ℕ) → r ≡ At w → at state w ≡ carriedBy par has state other u
+  found-state state other w e = sym (carried-some par has state other u w (sym near-is ∙ ap foundOf e))
+
+  pub found-nothing : (state : List ℕ) (other : ℕ) → r ≡ Nothing → other ≡ carriedBy par has state other u
+  found-nothing state other e = sym (carried-none par has state other u (sym near-is ∙ ap foundOf e))

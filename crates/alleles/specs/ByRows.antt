@@ -49,11 +49,11 @@ module _ (R : Record) (i b : ℕ) where
   allele-some w e = ap (λ (o : Option ℕ). elim o [ none ↦ stateOf (R .sites) i | some w ↦ lastState i w (R .muts) (stateOf (R .sites) i) ]) e
 
 module _ (par has state : List ℕ) (other u : ℕ) where
-  carried-none : near (parOf par) (marked has) Ages u ≡ none → carriedBy par has state other u ≡ other
+  pub carried-none : near (parOf par) (marked has) Ages u ≡ none → carriedBy par has state other u ≡ other
   unfolding carriedBy
   carried-none e = rw (e, carriedBy)
 
-  carried-some : (w : ℕ) → near (parOf par) (marked has) Ages u ≡ some w → carriedBy par has state other u ≡ at state w
+  pub carried-some : (w : ℕ) → near (parOf par) (marked has) Ages u ≡ some w → carriedBy par has state other u ≡ at state w
   unfolding carriedBy
   carried-some w e = rw (e, carriedBy)
 

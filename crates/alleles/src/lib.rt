@@ -2,13 +2,14 @@
 ghost use mathlib.Core.Path.{_≡_};
 ghost use Prim.Native.Nat.{ℕ, _<_, _≤_};
 ghost use lib.ListN.{length, replicate};
-ghost use Rattle.meaning.specs.Words.{rows};
-ghost use Rattle.meaning.specs.Rows.{MutationColumns};
+ghost use Rattle.meaning.specs.Words.{at, rows};
+ghost use Rattle.meaning.specs.Rows.{EdgeColumns, MutationColumns, Tables, recordOf};
 ghost use Rattle.meaning.specs.Forest.{near};
-ghost use Rattle.ancestry.specs.Column.{older, parOf};
+ghost use Rattle.meaning.specs.Allele.{alleleAt};
+ghost use Rattle.ancestry.specs.Column.{no-row, older, parOf};
 ghost use Rattle.ancestry.specs.Marks.{marked};
 ghost use Rattle.alleles.specs.Marks.{foundOf, rowOf, markAfter, stateAfter, Naming, marksOf, statesOf};
-ghost use Rattle.alleles.specs.Reading.{Climbable, carriedBy};
+ghost use Rattle.alleles.specs.Reading.{Climbable, carriedBy, Fillable, Opened, Readable};
 
 // A node row that is looked for.
 pub enum Found {
@@ -89,4 +90,38 @@ pub fn carrier(time: &[u32], par: &[u32], has: &[u8], u: u32) -> Found
         return Found::Nothing;
     }
     carrier(time, par, has, p)
+}
+
+// The state that row u carries, from the columns of a site; the other is the site's ancestral state.
+pub fn carried(time: &[u32], par: &[u32], has: &[u8], state: &[u8], other: u8, u: u32) -> u8
+    requires { ⌜ Climbable (now time) (now par) (now has) u × (length (now time) ≤ no-row) × (length (now time) ≤ length (now state)) ⌝ }
+    ensures { λ r. ⌜ r ≡ carriedBy (now (par .entry)) (now (has .entry)) (now (state .entry)) other u ⌝ }
+{
+    match carrier(time, par, has, u) {
+        Found::At(w) => state[w as usize],
+        Found::Nothing => other,
+    }
+}
+
+// Fills the columns of site row i at position x, once for all the fish that are asked for there.
+pub fn open_site(
+    left: &[u32],
+    right: &[u32],
+    parent: &[u32],
+    child: &[u32],
+    site: &[u32],
+    node: &[u32],
+    derived: &[u8],
+    x: u32,
+    i: u32,
+    other: u8,
+    par: &mut [u32],
+    has: &mut [u8],
+    state: &mut [u8],
+)
+    requires { ⌜ Fillable (record { left = now left; right = now right; parent = now parent; child = now child }) (record { site = now site; node = now node; derived = now derived }) (now par) (now has) (now state) ⌝ }
+    ensures { λ _. ⌜ Opened (record { left = now (left .entry); right = now (right .entry); parent = now (parent .entry); child = now (child .entry) }) (record { site = now (site .entry); node = now (node .entry); derived = now (derived .entry) }) x i other (length (now (par .entry))) (now (par .exit)) (now (has .exit)) (now (state .exit)) ⌝ }
+{
+    ancestry::parents_at(left, right, parent, child, x, par);
+    marks_at(site, node, derived, i, other, has, state);
 }
