@@ -11,7 +11,7 @@ use Rattle.meaning.specs.Words.{at, rows}
 use Rattle.meaning.specs.Rows.{EdgeColumns, MutationColumns, Tables, Record, recordOf, edgesOf, sitesOf, mutsOf, posOf, stateOf}
 use Rattle.meaning.specs.Forest.{Par, Ages, parentIn, near}
 use Rattle.meaning.specs.Allele.{carries, lastState, alleleAt}
-use Rattle.laws.specs.Counting.{get-rows}
+use Rattle.laws.specs.Counting.{length-rows, get-rows}
 use Rattle.bridge.specs.Rename.{mapOption, Renamed, near-names, near-inside}
 use Rattle.bridge.specs.Columns.{Apart, Within, parent-names}
 use Rattle.bridge.specs.Sites.{pos-at, state-at, carries-names, last-names}
@@ -19,7 +19,7 @@ use Rattle.ancestry.specs.Column.{no-row, code, parOf, parentRow, Rising}
 use Rattle.ancestry.specs.Marks.{marked, Upward}
 use Rattle.ancestry.specs.Coded.{parents-coded, parents-upward, parent-rises}
 use Rattle.alleles.specs.Marks.{mark, marksOf, statesOf, Naming}
-use Rattle.alleles.specs.Reading.{carriedBy, Opened, Readable}
+use Rattle.alleles.specs.Reading.{Climbable, carriedBy, Fillable, Opened, Readable}
 
 -- ---- the columns, cell by cell
 
@@ -59,6 +59,15 @@ module _ (par has state : List ℕ) (other u : ℕ) where
 
 -- ---- the columns of a site tell the allele
 
+-- columns of m cells can be filled
+pub fillable : (T : Tables) → Readable T → (m : ℕ) → length (T .nodes .time) ≤ m → (par has state : List ℕ) → length par ≡ m → length has ≡ m → length state ≡ m → Fillable (T .edges) (T .muts) par has state
+fillable T ok m room par has state p h s = record {
+  edges = record { even = ok .rising .even; child-row = λ e l. omega (arith, ok .rising .child-row e l) };
+  naming = record { node-long = ok .naming .node-long; derived-long = ok .naming .derived-long; node-row = λ j l. omega (arith, ok .naming .node-row j l) };
+  has-long = h ∙ sym p;
+  state-long = s ∙ sym p;
+}
+
 module _ (T : Tables) (ok : Readable T) (i m : ℕ) (exists : i < length (T .sites .position)) (room : length (T .nodes .time) ≤ m) (par has state : List ℕ) (cols : Opened (T .edges) (T .muts) (at (T .sites .position) i) i (at (T .sites .ancestral) i) m par has state) where
   abbrev n : ℕ
   n = length (T .nodes .birth)
@@ -89,6 +98,18 @@ module _ (T : Tables) (ok : Readable T) (i m : ℕ) (exists : i < length (T .sit
 
   same-marks : (v : ℕ) → v < n → carries (mutsOf (at (T .nodes .birth)) (T .muts)) i (at (T .nodes .birth) v) ≡ marked has v
   same-marks v l = carries-names (T .nodes .birth) (ok .once) (T .muts) node-row i v l ∙ sym (marks-at (T .muts) i m v (omega (arith, ok .births-long))) ∙ sym (ap (λ h. marked h v) (cols .marks))
+
+  -- from each row the way up can be gone
+  pub climbs : (u : ℕ) → u < length (T .nodes .time) → Climbable (T .nodes .time) par has u × (length (T .nodes .time) ≤ no-row) × (length (T .nodes .time) ≤ length state)
+  unfolding marksOf statesOf
+  climbs u row =
+      let p : length par ≡ m = ap length (cols .parents) ∙ length-rows (λ v. code (parentRow (T .edges) x v)) m in
+      let h : length has ≡ m = ap length (cols .marks) ∙ length-rows (λ v. mark (carries (mutsOf (λ r. r) (T .muts)) i v) 0) m in
+      let s : length state ≡ m = ap length (cols .states) ∙ length-rows (λ v. lastState i v (mutsOf (λ r. r) (T .muts)) (at (T .sites .ancestral) i)) m in (
+        record { upward = parents-upward (T .nodes .time) (T .edges) (ok .rising) x par (omega arith) column-is; long = omega arith; row = row },
+        omega (arith, ok .few),
+        omega arith,
+      )
 
   module _ (L u : ℕ) (row : u < length (T .nodes .time)) where
     -- the nearest by births is the birth of the nearest by rows

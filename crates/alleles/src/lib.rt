@@ -125,3 +125,45 @@ pub fn open_site(
     ancestry::parents_at(left, right, parent, child, x, par);
     marks_at(site, node, derived, i, other, has, state);
 }
+
+// The state that the fish of row u carries at site row i.
+pub fn state_of(
+    time: &[u32],
+    birth: &[u32],
+    left: &[u32],
+    right: &[u32],
+    parent: &[u32],
+    child: &[u32],
+    position: &[u32],
+    ancestral: &[u8],
+    site: &[u32],
+    node: &[u32],
+    derived: &[u8],
+    i: u32,
+    u: u32,
+) -> u8
+    requires { ⌜ Readable (record { nodes = record { time = now time; birth = now birth }; edges = record { left = now left; right = now right; parent = now parent; child = now child }; sites = record { position = now position; ancestral = now ancestral }; muts = record { site = now site; node = now node; derived = now derived } }) × (i < length (now position)) × (u < length (now time)) ⌝ }
+    ensures { λ r. ⌜ ((L : ℕ) → r ≡ alleleAt (recordOf L (record { nodes = record { time = now (time .entry); birth = now (birth .entry) }; edges = record { left = now (left .entry); right = now (right .entry); parent = now (parent .entry); child = now (child .entry) }; sites = record { position = now (position .entry); ancestral = now (ancestral .entry) }; muts = record { site = now (site .entry); node = now (node .entry); derived = now (derived .entry) } })) i (at (now (birth .entry)) u)) ⌝ }
+{
+    let x = position[i as usize];
+    let other = ancestral[i as usize];
+    let mut par = [0u32; meaning::NodeTable::MOST];
+    let mut has = [0u8; meaning::NodeTable::MOST];
+    let mut state = [0u8; meaning::NodeTable::MOST];
+    open_site(
+        left,
+        right,
+        parent,
+        child,
+        site,
+        node,
+        derived,
+        x,
+        i,
+        other,
+        &mut par,
+        &mut has,
+        &mut state,
+    );
+    carried(time, &par, &has, &state, other, u)
+}
