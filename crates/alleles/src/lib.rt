@@ -1,7 +1,7 @@
 // Reading one allele: the marks and last states of a site's mutations by node rows, and the first marked row at or above a row.
 ghost use mathlib.Core.Path.{_≡_};
 ghost use Prim.Native.Nat.{ℕ, _<_, _≤_};
-ghost use lib.ListN.{length, replicate};
+ghost use lib.ListN.{length, replicate, set};
 ghost use Rattle.meaning.specs.Words.{at, rows};
 ghost use Rattle.meaning.specs.Rows.{EdgeColumns, MutationColumns, Tables, recordOf};
 ghost use Rattle.meaning.specs.Forest.{near};
@@ -43,6 +43,15 @@ fn clear(column: &mut [u8], value: u8)
     }
 }
 
+// Marks row v and leaves a state there, over that of an earlier mutation.
+fn leave_state(has: &mut [u8], state: &mut [u8], v: u32, d: u8)
+    requires { ⌜ (v < length (now has)) × (v < length (now state)) ⌝ }
+    ensures { λ _. ⌜ (now (has .exit) ≡ set (now (has .entry)) v 1) × (now (state .exit) ≡ set (now (state .entry)) v d) ⌝ }
+{
+    has[v as usize] = 1;
+    state[v as usize] = d;
+}
+
 // Goes over the mutations once: a node with one at site row i is marked, and its state is that of its last such row.
 fn fill(site: &[u32], node: &[u32], derived: &[u8], i: u32, has: &mut [u8], state: &mut [u8])
     requires { ⌜ Naming (record { site = now site; node = now node; derived = now derived }) (length (now has)) × (length (now state) ≡ length (now has)) ⌝ }
@@ -51,9 +60,7 @@ fn fill(site: &[u32], node: &[u32], derived: &[u8], i: u32, has: &mut [u8], stat
     let mut j = 0;
     while j < site.len() {
         if site[j] == i {
-            let v = node[j] as usize;
-            has[v] = 1;
-            state[v] = derived[j];
+            leave_state(has, state, node[j], derived[j]);
         }
         j += 1;
     }

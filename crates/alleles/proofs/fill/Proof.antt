@@ -12,6 +12,7 @@ use Rattle.alleles.proofs.fill.Statement.{statement}
 use Rattle.alleles.proofs.fill.Tie as tie
 use Rattle.alleles.proofs.fill.Reads as reads
 use Rattle.alleles.proofs.fill.Lts as lts
+use Rattle.alleles.proofs.leave_state.Reads as leave-state-reads
 
 abbrev columns : List ℕ → List ℕ → List ℕ → MutationColumns
 columns s n d = record { site = s; node = n; derived = d }
@@ -31,23 +32,20 @@ mul-if1 c = search needs
 shared-slice-read-if1 : tie.Need-shared-slice-read-if1 Inv-loop μ-loop
 shared-slice-read-if1 c = search needs
 
-mul-v : tie.Need-mul-v Inv-loop μ-loop
-mul-v c = search needs
+mul-leave-state : tie.Need-mul-leave-state Inv-loop μ-loop
+mul-leave-state c = search needs
 
-shared-slice-read-v : tie.Need-shared-slice-read-v Inv-loop μ-loop
-shared-slice-read-v c = search needs
+shared-slice-read-leave-state : tie.Need-shared-slice-read-leave-state Inv-loop μ-loop
+shared-slice-read-leave-state c = search needs
 
-cast-v : tie.Need-cast-v Inv-loop μ-loop
-cast-v c = omega (arith, c .shared-slice-known2 .given (c .before .before .before .before .loop .j))
+shared-slice-read-leave-state-2 : tie.Need-shared-slice-read-leave-state-2 Inv-loop μ-loop
+shared-slice-read-leave-state-2 c = search needs
 
-slice-write-has : tie.Need-slice-write-has Inv-loop μ-loop
-slice-write-has c = omega (arith, c .before .before .before .before .before .pre .0 .node-row (c .before .before .before .before .loop .j) (c .before .before .before .loop-test .taken), c .before .before .before .before .loop .inv .1 .has-long)
-
-shared-slice-read-state : tie.Need-shared-slice-read-state Inv-loop μ-loop
-shared-slice-read-state c = search needs
-
-slice-write-state : tie.Need-slice-write-state Inv-loop μ-loop
-slice-write-state c = omega (arith, c .before .before .before .before .before .before .pre .0 .node-row (c .before .before .before .before .before .loop .j) (c .before .before .before .before .loop-test .taken), c .before .before .before .before .before .loop .inv .1 .state-long, c .before .before .before .before .before .before .pre .1)
+leave-state-requires : tie.Need-leave-state-requires Inv-loop μ-loop
+leave-state-requires c κs =
+    let w : _ = c .before .before .before .before .before .before .before .loop .inv .1 in
+    let a : _ = c .before .before .before .before .before .before .before .before .before .before .before .before .before .pre .0 .node-row (c .before .before .before .before .before .before .before .loop .j) (c .before .before .before .before .before .before .loop-test .taken) in
+    (omega (arith, w .has-long), omega (arith, w .state-long, c .before .before .before .before .before .before .before .before .before .before .before .before .before .pre .1))
 
 add-j : tie.Need-add-j Inv-loop μ-loop
 add-j c = search needs
@@ -59,10 +57,10 @@ loop-again : tie.Need-loop-again Inv-loop μ-loop
 loop-again c =
     let w : _ = c .before .before .before .loop .inv .1 in
     let l : _ = c .before .before .loop-test .taken in
-    let a : _ = c .before .before .before .before .pre .0 .node-row (c .before .before .before .loop .j) l in (
+    let a : _ = c .before .before .before .before .before .before .before .before .before .pre .0 .node-row (c .before .before .before .loop .j) l in (
       search needs,
       ⊎-elim
-          (λ h. became (h .3) (h .4) (put _ _ _ _ _ _ _ l w (h .0 .taken) (omega (arith, w .has-long)) (omega (arith, w .state-long, c .before .before .before .before .pre .1))))
+          (λ h. became (h .10 ∙ h .5 .ensures .0) (h .11 ∙ h .5 .ensures .1) (put _ _ _ _ _ _ _ l w (h .0 .taken) (omega (arith, w .has-long)) (omega (arith, w .state-long, c .before .before .before .before .before .before .before .before .before .pre .1))))
           (λ h. became (h .1) (h .2) (skip _ _ _ _ _ _ _ l w (h .0 .left)))
           (c .if1 .came),
     )
@@ -87,12 +85,10 @@ fill-spec =
     loop-holds
     mul-if1
     shared-slice-read-if1
-    mul-v
-    shared-slice-read-v
-    cast-v
-    slice-write-has
-    shared-slice-read-state
-    slice-write-state
+    mul-leave-state
+    shared-slice-read-leave-state
+    shared-slice-read-leave-state-2
+    leave-state-requires
     add-j
     loop-less
     loop-again
