@@ -48,8 +48,8 @@ fn leave_state(has: &mut [u8], state: &mut [u8], v: u32, d: u8)
     requires { ⌜ (v < length (now has)) × (v < length (now state)) ⌝ }
     ensures { λ _. ⌜ (now (has .exit) ≡ set (now (has .entry)) v 1) × (now (state .exit) ≡ set (now (state .entry)) v d) ⌝ }
 {
-    has[v as usize] = 1;
     state[v as usize] = d;
+    has[v as usize] = 1;
 }
 
 // Goes over the mutations once: a node with one at site row i is marked, and its state is that of its last such row.
