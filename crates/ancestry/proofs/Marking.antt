@@ -2,21 +2,23 @@
 use mathlib.Core.Path.{_≡_, refl, sym, ap, ap₂, fun-ext, _∙_}
 use mathlib.Core.Bool.{Bool, true, false}
 use mathlib.Core.List.{List}
-use mathlib.Core.Option.{Option, none, some}
+use mathlib.Core.Option.{none, some}
 use mathlib.Core.Logic.{_⊎_, inl, inr, ⊎-elim}
-use Prim.Native.Nat.{ℕ, _<_, _≤_}
+use Prim.Native.Nat.{ℕ, _<_}
 use native.Mathlib.Omega.{arith}
 use lib.Dec.{eqb}
 use lib.ListN.{length, set, length-set}
 use lib.Seq.{ext-getD, getD-set-same, getD-set-other}
-use borrow.Author.Tests.{eq-eqb, ne-eqb, eqb-true}
+use borrow.Author.Tests.{eq-eqb, ne-eqb}
 use Rattle.meaning.specs.Words.{or, at, rows}
 use Rattle.meaning.specs.Forest.{Par, Ages, ancestor}
-use Rattle.laws.specs.Bools.{clash, bool-ext, eq?, some-inj, none-some, or-left, or-right}
+use Rattle.laws.specs.Bools.{clash, eq?, some-inj, none-some, or-left, or-right}
 use Rattle.laws.specs.Counting.{length-rows, get-rows}
-use Rattle.ancestry.specs.Column.{parOf}
+use Rattle.ancestry.specs.Column.{no-row, parOf, older}
+use Rattle.ancestry.specs.Coded.{cell-none, cell-some}
+use Rattle.ancestry.specs.Older.{older-falls}
 use Rattle.ancestry.specs.Ancestors.{Above, here, step, Aged, ancestor-of, ancestor-none, ancestor-step}
-use Rattle.ancestry.specs.Marks.{bit, marked, Bits, Closed, ClosedBut, Upward, Markable, MarkedUp}
+use Rattle.ancestry.specs.Marks.{bit, marked, Bits, ClosedBut, Upward, Markable, MarkedUp}
 
 -- times below Ages make the column's forest aged
 pub aged : {time par : List ℕ} → Upward time par → ((i : ℕ) → at time i < Ages) → Aged (parOf par) (at time)
@@ -99,3 +101,41 @@ module _ (marks : List ℕ) (p : ℕ) (h : p < length marks) where
         same : (v : ℕ) → (v ≡ p) ⊎ (v ≡ p → ⊥) → or (marked (set marks p 1) v) (ancestor P v p) ≡ or (marked marks v) (ancestor P v u)
         same v (inl q) = or-left {a = marked (set marks p 1) v} (ancestor P v p) (rw q set-marked) ∙ sym (or-right (marked marks v) (ancestor P v u) (ancestor-step P age ok v u p e ∙ or-left (ancestor P v p) (eq-eqb v p q)))
         same v (inr q) = ap₂ or (set-other v q) (sym (ancestor-step P age ok v u p e ∙ rw (ne-eqb v p q)))
+
+-- ---- as the function meets it
+
+module _ (time par marks : List ℕ) (u : ℕ) (k : Markable time par marks u) where
+  u-row : u < length par
+  u-row = omega (arith, k .row, k .upward .long)
+
+  pub no-parent : at par u ≡ no-row → MarkedUp (parOf par) u marks marks
+  no-parent e = mark-none (parOf par) u marks (k .bits) (k .closed) (cell-none par u u-row e)
+
+  module _ (n : at par u ≡ no-row → ⊥) where
+    pub parent-in : at par u < length time
+    parent-in = k .upward .row u (at par u) (cell-some par u u-row n)
+
+    pub parent-falls : older time (at par u) < older time u
+    parent-falls = older-falls time u (at par u) parent-in (k .upward .age u (at par u) (cell-some par u u-row n))
+
+    pub parent-next : Markable time par (set marks (at par u) 1) (at par u)
+    parent-next =
+        let h : at par u < length marks = omega (arith, parent-in, k .long) in
+        record {
+          upward = k .upward;
+          long = omega (arith, k .long, length-set marks (at par u) 1);
+          row = parent-in;
+          bits = set-bits marks (at par u) h (k .bits);
+          closed = set-closed marks (at par u) h (parOf par) u (cell-some par u u-row n) (k .closed);
+        }
+
+    module _ (young : (i : ℕ) → at time i < Ages) where
+      pub parent-marked : at marks (at par u) ≡ 1 → MarkedUp (parOf par) u marks marks
+      unfolding marked
+      parent-marked e = mark-stop (parOf par) (at time) (aged (k .upward) young) u (at par u) (cell-some par u u-row n) marks (k .bits) (k .closed) (eq-eqb (at marks (at par u)) 1 e)
+
+      pub parent-on : (after : List ℕ) → MarkedUp (parOf par) (at par u) (set marks (at par u) 1) after → MarkedUp (parOf par) u marks after
+      parent-on after m = mark-on marks (at par u) (omega (arith, parent-in, k .long)) (parOf par) u (cell-some par u u-row n) (at time) (aged (k .upward) young) after m
+
+pub lt-eq : {a b t : ℕ} → a < b → b ≡ t → a < t
+lt-eq h e = omega arith

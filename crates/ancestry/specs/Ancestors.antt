@@ -1,12 +1,12 @@
 -- At or above as a relation, and what it says of the test `ancestor`: the count of steps is never the matter.
-use mathlib.Core.Path.{_≡_, refl, sym, ap, _∙_}
+use mathlib.Core.Path.{_≡_, refl}
 use mathlib.Core.Bool.{Bool, true, false}
 use mathlib.Core.Option.{Option, none, some}
 use mathlib.Core.Logic.{_⊎_, inl, inr, ⊎-elim}
 use Prim.Native.Nat.{ℕ, zero, suc, _+_, _<_, _≤_}
 use native.Mathlib.Omega.{arith}
 use lib.Dec.{eqb}
-use borrow.Author.Tests.{eqb-true, eqb-false, eq-eqb}
+use borrow.Author.Tests.{eqb-true, eq-eqb}
 use Rattle.meaning.specs.Words.{or}
 use Rattle.meaning.specs.Forest.{Par, Ages, above, ancestor}
 use Rattle.laws.specs.Bools.{clash, bool-ext, not-true, or-of, or-left, or-right, some-inj, none-some}

@@ -6,15 +6,15 @@ use mathlib.Core.Option.{Option, none, some}
 use mathlib.Core.Logic.{_⊎_, inl, inr, ⊎-elim}
 use Prim.Native.Nat.{ℕ, zero, suc, _+_, _<_, _≤_}
 use native.Mathlib.Omega.{arith}
-use lib.Dec.{eqb, leb, ltb}
+use lib.Dec.{ltb}
 use lib.ListN.{length, getD, List·getD-eq-default}
 use borrow.Author.Tests.{eq-eqb, ne-eqb, eqb-true, ltb-true, ltb-false}
 use Rattle.meaning.specs.Words.{and, at, rows, rowsFrom}
 use Rattle.meaning.specs.Rows.{EdgeColumns, Edge, edgesOf}
 use Rattle.meaning.specs.Forest.{Par, holds, parentIn}
-use Rattle.laws.specs.Bools.{clash, eq?, and-of, none-some}
+use Rattle.laws.specs.Bools.{and-of}
 use Rattle.laws.specs.Counting.{length-rows, get-rows}
-use Rattle.ancestry.specs.Column.{no-row, code, parOf, parentRow, Even, Fitting, Rising}
+use Rattle.ancestry.specs.Column.{no-row, code, parOf, parentRow, Rising}
 use Rattle.ancestry.specs.Marks.{Upward}
 
 -- ---- a cell of the column

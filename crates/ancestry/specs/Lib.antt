@@ -4,3 +4,5 @@ pub mod Ancestors
 pub mod Older
 pub mod Marks
 pub mod Coded
+pub mod Overtaken
+pub mod Births

@@ -1,15 +1,15 @@
 -- The count of older rows falls on the way up: the measure of every function that climbs by calling itself.
-use mathlib.Core.Path.{_≡_, refl, sym, ap, _∙_}
+use mathlib.Core.Path.{_≡_, refl}
 use mathlib.Core.Bool.{Bool, true, false}
 use mathlib.Core.List.{List, [], _∷_}
-use mathlib.Core.Logic.{_⊎_, inl, inr, ⊎-elim}
+use mathlib.Core.Logic.{_⊎_, ⊎-elim}
 use Prim.Native.Nat.{ℕ, suc, _<_, _≤_}
 use native.Mathlib.Omega.{arith}
 use lib.Dec.{ltb}
 use lib.ListN.{length}
 use borrow.Author.Tests.{lt-ltb, le-ltb, ltb-true}
 use Rattle.meaning.specs.Words.{at, mem, count, rows}
-use Rattle.laws.specs.Bools.{clash, truth}
+use Rattle.laws.specs.Bools.{clash}
 use Rattle.laws.specs.Counting.{length-rows, get-rows}
 use Rattle.laws.specs.Members.{mem-nil, mem-cases, at-mem}
 use Rattle.ancestry.specs.Column.{older}

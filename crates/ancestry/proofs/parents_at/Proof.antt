@@ -1,7 +1,7 @@
 -- `ancestry::parents_at` meets its contract: the column holds the parents by the edge rows gone over.
-use mathlib.Core.Path.{_≡_, refl, sym, ap, _∙_}
+use mathlib.Core.Path.{_≡_, ap}
 use mathlib.Core.List.{List}
-use Prim.Native.Nat.{ℕ, suc, _<_, _≤_, _-_}
+use Prim.Native.Nat.{ℕ, _<_, _≤_, _-_}
 use lib.ListN.{length, length-replicate}
 use Rattle.meaning.specs.Words.{at}
 use Rattle.ancestry.specs.Column.{no-row}
