@@ -1,0 +1,4 @@
+-- Laws that belong to no one function.
+pub mod Filling
+pub mod Finding
+pub mod Climbing

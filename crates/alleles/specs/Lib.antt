@@ -1,0 +1,4 @@
+-- What the reading of an allele works on, and what it finds.
+pub mod Marks
+pub mod Reading
+pub mod ByRows

@@ -1,0 +1,176 @@
+// Reading one allele: the marks and last states of a site's mutations by node rows, and the first marked row at or above a row.
+ghost use mathlib.Core.Path.{_≡_};
+ghost use Prim.Native.Nat.{ℕ, _<_, _≤_};
+ghost use lib.ListN.{length, replicate, set};
+ghost use Rattle.meaning.specs.Words.{at, rows};
+ghost use Rattle.meaning.specs.Rows.{EdgeColumns, MutationColumns, Tables, recordOf};
+ghost use Rattle.meaning.specs.Forest.{near};
+ghost use Rattle.meaning.specs.Allele.{alleleAt};
+ghost use Rattle.ancestry.specs.Column.{no-row, older, parOf};
+ghost use Rattle.ancestry.specs.Marks.{marked};
+ghost use Rattle.alleles.specs.Marks.{foundOf, rowOf, markAfter, stateAfter, Naming, marksOf, statesOf};
+ghost use Rattle.alleles.specs.Reading.{Climbable, carriedBy, Fillable, Opened, Readable};
+
+// A node row that is looked for.
+pub enum Found {
+    At(u32),
+    Nothing,
+}
+
+// The row of the birth number b.
+pub fn row_of(birth: &[u32], b: u32) -> Found
+    requires { ⌜ length (now birth) ≤ 4294967295 ⌝ }
+    ensures { λ r. ⌜ foundOf r ≡ rowOf (now (birth .entry)) b ⌝ }
+{
+    let mut i = 0;
+    while i < birth.len() {
+        if birth[i] == b {
+            return Found::At(i as u32);
+        }
+        i += 1;
+    }
+    Found::Nothing
+}
+
+// Puts one value into each cell.
+fn clear(column: &mut [u8], value: u8)
+    ensures { λ _. ⌜ now (column .exit) ≡ replicate (length (now (column .entry))) value ⌝ }
+{
+    let mut i = 0;
+    while i < column.len() {
+        column[i] = value;
+        i += 1;
+    }
+}
+
+// Marks row v and leaves a state there, over that of an earlier mutation.
+fn leave_state(has: &mut [u8], state: &mut [u8], v: u32, d: u8)
+    requires { ⌜ (v < length (now has)) × (v < length (now state)) ⌝ }
+    ensures { λ _. ⌜ (now (has .exit) ≡ set (now (has .entry)) v 1) × (now (state .exit) ≡ set (now (state .entry)) v d) ⌝ }
+{
+    state[v as usize] = d;
+    has[v as usize] = 1;
+}
+
+// Goes over the mutations once: a node with one at site row i is marked, and its state is that of its last such row.
+fn fill(site: &[u32], node: &[u32], derived: &[u8], i: u32, has: &mut [u8], state: &mut [u8])
+    requires { ⌜ Naming (record { site = now site; node = now node; derived = now derived }) (length (now has)) × (length (now state) ≡ length (now has)) ⌝ }
+    ensures { λ _. ⌜ (now (has .exit) ≡ rows (markAfter (record { site = now (site .entry); node = now (node .entry); derived = now (derived .entry) }) i (now (has .entry))) (length (now (has .entry)))) × (now (state .exit) ≡ rows (stateAfter (record { site = now (site .entry); node = now (node .entry); derived = now (derived .entry) }) i (now (state .entry))) (length (now (state .entry)))) ⌝ }
+{
+    let mut j = 0;
+    while j < site.len() {
+        if site[j] == i {
+            leave_state(has, state, node[j], derived[j]);
+        }
+        j += 1;
+    }
+}
+
+// The marks and the last states at site row i; a node with no mutation there has the mark 0 and the other state.
+pub fn marks_at(
+    site: &[u32],
+    node: &[u32],
+    derived: &[u8],
+    i: u32,
+    other: u8,
+    has: &mut [u8],
+    state: &mut [u8],
+)
+    requires { ⌜ Naming (record { site = now site; node = now node; derived = now derived }) (length (now has)) × (length (now state) ≡ length (now has)) ⌝ }
+    ensures { λ _. ⌜ (now (has .exit) ≡ marksOf (record { site = now (site .entry); node = now (node .entry); derived = now (derived .entry) }) i (length (now (has .entry)))) × (now (state .exit) ≡ statesOf (record { site = now (site .entry); node = now (node .entry); derived = now (derived .entry) }) i other (length (now (state .entry)))) ⌝ }
+{
+    clear(has, 0);
+    clear(state, other);
+    fill(site, node, derived, i, has, state);
+}
+
+// The first row at or above u that is marked. It calls itself; the number of older rows falls.
+pub fn carrier(time: &[u32], par: &[u32], has: &[u8], u: u32) -> Found
+    requires { ⌜ Climbable (now time) (now par) (now has) u ⌝ }
+    ensures { λ r. ⌜ ((k : ℕ) → older (now (time .entry)) u < k → foundOf r ≡ near (parOf (now (par .entry))) (marked (now (has .entry))) k u) ⌝ }
+{
+    if has[u as usize] == 1 {
+        return Found::At(u);
+    }
+    let p = par[u as usize];
+    if p == ancestry::ParentColumn::NONE {
+        return Found::Nothing;
+    }
+    carrier(time, par, has, p)
+}
+
+// The state that row u carries, from the columns of a site; the other is the site's ancestral state.
+pub fn carried(time: &[u32], par: &[u32], has: &[u8], state: &[u8], other: u8, u: u32) -> u8
+    requires { ⌜ Climbable (now time) (now par) (now has) u × (length (now time) ≤ no-row) × (length (now time) ≤ length (now state)) ⌝ }
+    ensures { λ r. ⌜ r ≡ carriedBy (now (par .entry)) (now (has .entry)) (now (state .entry)) other u ⌝ }
+{
+    match carrier(time, par, has, u) {
+        Found::At(w) => state[w as usize],
+        Found::Nothing => other,
+    }
+}
+
+// Fills the columns of site row i at position x, once for all the fish that are asked for there.
+pub fn open_site(
+    left: &[u32],
+    right: &[u32],
+    parent: &[u32],
+    child: &[u32],
+    site: &[u32],
+    node: &[u32],
+    derived: &[u8],
+    x: u32,
+    i: u32,
+    other: u8,
+    par: &mut [u32],
+    has: &mut [u8],
+    state: &mut [u8],
+)
+    requires { ⌜ Fillable (record { left = now left; right = now right; parent = now parent; child = now child }) (record { site = now site; node = now node; derived = now derived }) (now par) (now has) (now state) ⌝ }
+    ensures { λ _. ⌜ Opened (record { left = now (left .entry); right = now (right .entry); parent = now (parent .entry); child = now (child .entry) }) (record { site = now (site .entry); node = now (node .entry); derived = now (derived .entry) }) x i other (length (now (par .entry))) (now (par .exit)) (now (has .exit)) (now (state .exit)) ⌝ }
+{
+    ancestry::parents_at(left, right, parent, child, x, par);
+    marks_at(site, node, derived, i, other, has, state);
+}
+
+// The state that the fish of row u carries at site row i.
+pub fn state_of(
+    time: &[u32],
+    birth: &[u32],
+    left: &[u32],
+    right: &[u32],
+    parent: &[u32],
+    child: &[u32],
+    position: &[u32],
+    ancestral: &[u8],
+    site: &[u32],
+    node: &[u32],
+    derived: &[u8],
+    i: u32,
+    u: u32,
+) -> u8
+    requires { ⌜ Readable (record { nodes = record { time = now time; birth = now birth }; edges = record { left = now left; right = now right; parent = now parent; child = now child }; sites = record { position = now position; ancestral = now ancestral }; muts = record { site = now site; node = now node; derived = now derived } }) × (i < length (now position)) × (u < length (now time)) ⌝ }
+    ensures { λ r. ⌜ ((L : ℕ) → r ≡ alleleAt (recordOf L (record { nodes = record { time = now (time .entry); birth = now (birth .entry) }; edges = record { left = now (left .entry); right = now (right .entry); parent = now (parent .entry); child = now (child .entry) }; sites = record { position = now (position .entry); ancestral = now (ancestral .entry) }; muts = record { site = now (site .entry); node = now (node .entry); derived = now (derived .entry) } })) i (at (now (birth .entry)) u)) ⌝ }
+{
+    let x = position[i as usize];
+    let other = ancestral[i as usize];
+    let mut par = [0u32; meaning::NodeTable::MOST];
+    let mut has = [0u8; meaning::NodeTable::MOST];
+    let mut state = [0u8; meaning::NodeTable::MOST];
+    open_site(
+        left,
+        right,
+        parent,
+        child,
+        site,
+        node,
+        derived,
+        x,
+        i,
+        other,
+        &mut par,
+        &mut has,
+        &mut state,
+    );
+    carried(time, &par, &has, &state, other, u)
+}
