@@ -8,3 +8,7 @@ pub mod Check
 pub mod Clean
 pub mod Allele
 pub mod Join
+pub mod Listing
+pub mod ByHand
+pub mod Errors
+pub mod Small

@@ -2,13 +2,13 @@
 use mathlib.Core.Path.{_≡_, refl}
 use mathlib.Core.List.{List, [], _∷_}
 use Prim.Native.Nat.{ℕ}
 use Rattle.meaning.specs.Rows.{Tables}
 use Rattle.meaning.specs.Forest.{stands}
 use Rattle.meaning.specs.Answer.{Answer, Stated, answer, done, limits}
 use Rattle.meaning.specs.Check.{check}
 use Rattle.meaning.specs.Clean.{cleaned, nodeMap}
 use Rattle.meaning.specs.Allele.{allele}
-use Rattle.cases.specs.Listing.{nodes, edges, sites, muts, listing, with-nodes, with-edges, with-muts}
+use Rattle.meaning.specs.Listing.{nodes, edges, sites, muts, listing, with-nodes, with-edges, with-muts}
 
 -- the columns of tables 1 to 4 with no rows of nodes, edges and mutations
 abbrev none-kept : Tables
