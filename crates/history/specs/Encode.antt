@@ -129,31 +129,36 @@ of-is : (o : Option ℕ) (u : ℕ) → o ≡ some u → is o u ≡ true
 unfolding is
 of-is o u e = rw e (eq-eqb u u refl)
 
-module _ (L : ℕ) (time : ℕ → ℕ) (D : ℕ → Par) (fish : List ℕ) (x : ℕ) (inside : x < L) where
-  pub edges-any : (b q : ℕ) → Any (Cov x b q) (edgesFor L time D fish) → D x b ≡ some q
+module _ (L : ℕ) (time : ℕ → ℕ) (D : ℕ → Par) (fish : List ℕ) (x : ℕ) where
+  -- the runs of one parent over all children
+  abbrev under : ℕ → List Edge
+  under p = each (λ c. runs p c (λ x. is (D x c) p) none 0 L) (sort ltb fish)
+
+  -- an edge that is written lies below L and is the forest's
+  pub edges-any : (b q : ℕ) → Any (Cov x b q) (edgesFor L time D fish) → (x < L) × (D x b ≡ some q)
   unfolding edgesFor
   edges-any b q h =
-      let i : _ = each-any (λ p. each (λ c. runs p c (λ x. is (D x c) p) none 0 L) (sort ltb fish)) (sort (before time) fish) h in
+      let i : _ = each-any under (sort (before time) fish) h in
       let j : _ = each-any (λ c. runs (i .0) c (λ x. is (D x c) (i .0)) none 0 L) (sort ltb fish) (i .2) in
       let r : _ = runs-of (i .0) (j .0) (λ x. is (D x (j .0)) (i .0)) x b q none 0 L (j .2) in
       ⊎-elim
       (λ (w : Open none 0 x). not-some (w .1))
-      (λ (w : (is (D x (j .0)) (i .0) ≡ true) × (0 ≤ x) × (x < 0 + L)). ap (D x) (sym (r .0)) ∙ is-of _ _ (w .0) ∙ ap some (r .1))
+      (λ (w : (is (D x (j .0)) (i .0) ≡ true) × (0 ≤ x) × (x < 0 + L)). (omega (arith, w .2), ap (D x) (sym (r .0)) ∙ is-of _ _ (w .0) ∙ ap some (r .1)))
       (r .2)
 
   edges-of : (b q : ℕ) → parentIn (edgesFor L time D fish) x b ≡ some q → D x b ≡ some q
-  edges-of b q h = edges-any b q (parent-of x b (edgesFor L time D fish) q h)
+  edges-of b q h = edges-any b q (parent-of x b (edgesFor L time D fish) q h) .1
 
-  -- the forest read from the fish is the forest that was written
-  pub decode : ((b p : ℕ) → D x b ≡ some p → (mem b fish ≡ true) × (mem p fish ≡ true)) → (b : ℕ) → parentIn (edgesFor L time D fish) x b ≡ D x b
+  -- the forest read from the written edges is the forest that was written
+  pub decode : x < L → ((b p : ℕ) → D x b ≡ some p → (mem b fish ≡ true) × (mem p fish ≡ true)) → (b : ℕ) → parentIn (edgesFor L time D fish) x b ≡ D x b
   unfolding edgesFor
-  decode ends b = opt-ext (edges-of b) back
+  decode inside ends b = opt-ext (edges-of b) back
     where
       back : (q : ℕ) → D x b ≡ some q → parentIn (edgesFor L time D fish) x b ≡ some q
       back q h =
           let m : _ = ends b q h in
           let a : Any (Cov x b q) (edgesFor L time D fish) =
-          any-each (λ p. each (λ c. runs p c (λ x. is (D x c) p) none 0 L) (sort ltb fish)) q (sort (before time) fish) (mem-sort (before time) q fish ∙ m .1)
+          any-each under q (sort (before time) fish) (mem-sort (before time) q fish ∙ m .1)
           (any-each (λ c. runs q c (λ x. is (D x c) q) none 0 L) b (sort ltb fish) (mem-sort ltb b fish ∙ m .0)
           (of-runs q b (λ x. is (D x b) q) x none 0 L (λ s g. not-some g) (inr (of-is (D x b) q h, omega arith, omega arith)))) in
           let r : _ = of-parent x b (edgesFor L time D fish) q a in
@@ -193,3 +198,10 @@ module _ {Q : Edge → Type 0} (p c : ℕ) (f : ℕ → Bool) (q : (l r : ℕ) �
       go : (t : Bool) → f x ≡ t → ((o′ : Option ℕ) → All Q (runs p c f o′ (suc x) k)) → All Q (runs p c f o x (suc k))
       go true e ih = rw (e, runs) (ih _)
       go false e ih = rw (e, runs) (all-app (all-shut o x) (ih none))
+
+-- every written edge is of two of the fish
+pub edges-among : (L : ℕ) (time : ℕ → ℕ) (D : ℕ → Par) (fish : List ℕ) → All (λ (e : Edge). (mem (e .parent) fish ≡ true) × (mem (e .child) fish ≡ true)) (edgesFor L time D fish)
+unfolding edgesFor
+edges-among L time D fish = all-each (λ p. each (λ c. runs p c (λ x. is (D x c) p) none 0 L) (sort ltb fish)) (sort (before time) fish) (λ p m.
+    all-each (λ c. runs p c (λ x. is (D x c) p) none 0 L) (sort ltb fish) (λ c k.
+    all-runs p c (λ x. is (D x c) p) (λ _ _. (sym (mem-sort (before time) p fish) ∙ m, sym (mem-sort ltb c fish) ∙ k)) none 0 L))

@@ -7,3 +7,8 @@ pub mod Moved
 pub mod JoinEdges
 pub mod Kept
 pub mod Same
+pub mod Cleaned
+pub mod Joined
+pub mod Step
+pub mod Tidy
+pub mod Run

@@ -7,7 +7,7 @@ use Prim.Native.Nat.{ℕ}
 use lib.Dec.{eqb}
 use borrow.Author.Tests.{eqb-true, eqb-false, eq-eqb, ne-eqb}
 use Rattle.meaning.specs.Words.{mem}
-use Rattle.meaning.specs.Rows.{Node, births, nodeOf, timeOf}
+use Rattle.meaning.specs.Rows.{Node, births, no-node, nodeOf, timeOf}
 use Rattle.laws.specs.Bools.{clash, not-true}
 use Rattle.laws.specs.Members.{mem-nil, mem-here, mem-there, mem-cases}
 
@@ -57,6 +57,14 @@ node-right (n ∷ a) b c h =
     node-miss n (a ++ b) c (λ (q : n .birth ≡ c). clash (mem-here c (n .birth) (births a) (sym q)) h)
     ∙ node-right a b c (not-true (mem c (births a)) (λ k. clash (mem-there c (n .birth) (births a) k) h))
 
+-- a fish that is in no row
+pub node-none : (N : List Node) (b : ℕ) → mem b (births N) ≡ false → nodeOf N b ≡ no-node
+unfolding births nodeOf
+node-none [] b h = refl
+node-none (n ∷ l) b h =
+    node-miss n l b (λ (q : n .birth ≡ b). clash (mem-here b (n .birth) (births l) (sym q)) h)
+    ∙ node-none l b (not-true (mem b (births l)) (λ k. clash (mem-there b (n .birth) (births l) k) h))
+
 -- ---- rows copied whole
 
 module _ (N : List Node) where
@@ -82,3 +90,7 @@ module _ (N : List Node) where
 pub time-same : (a b : List Node) (c : ℕ) → nodeOf a c ≡ nodeOf b c → timeOf a c ≡ timeOf b c
 unfolding timeOf
 time-same a b c e = ap (λ (n : Node). n .time) e
+
+pub time-none : (N : List Node) (b : ℕ) → mem b (births N) ≡ false → timeOf N b ≡ 0
+unfolding timeOf
+time-none N b h = ap (λ (n : Node). n .time) (node-none N b h)
