@@ -1,0 +1,2 @@
+-- What the reading of an allele works on.
+pub mod Marks

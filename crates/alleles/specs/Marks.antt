@@ -1,0 +1,58 @@
+-- A row that is looked for, and the marks and last states of a site's mutations by node rows.
+use mathlib.Core.Path.{_≡_}
+use mathlib.Core.Bool.{Bool, true, false}
+use mathlib.Core.List.{List, [], _∷_}
+use mathlib.Core.Option.{Option, none, some}
+use Prim.Native.Nat.{ℕ, _<_, _≤_}
+use lib.Dec.{eqb}
+use lib.ListN.{length}
+use Rattle.meaning.specs.Words.{at, mem, indexOf, rows}
+use Rattle.meaning.specs.Rows.{MutationColumns, mutsOf}
+use Rattle.meaning.specs.Allele.{carries, lastState}
+use Rattle.alleles.specs.declared.Found.{Found}
+use Rattle.alleles.specs.declared.Found.the-variants.{At, Nothing}
+
+-- the row that was found
+abbrev pub foundOf : Found → Option ℕ
+foundOf (At r) = some r
+foundOf Nothing = none
+
+-- the row of the birth number b
+unfoldable pub rowOf : List ℕ → ℕ → Option ℕ
+unfolding mem indexOf
+rowOf birth b = elim (mem b birth) [ true ↦ some (indexOf b birth) | false ↦ none ]
+
+-- the columns are equally long, and each mutation is on one of n rows: part of what 1 and 9 find
+pub record Naming (M : MutationColumns) (n : ℕ) : Type 0 where
+  pub node-long : length (M .node) ≡ length (M .site)
+  pub derived-long : length (M .derived) ≡ length (M .site)
+  pub node-row : (j : ℕ) → j < length (M .site) → at (M .node) j < n
+
+-- 1 where the test holds, and else what was there
+unfoldable pub mark : Bool → ℕ → ℕ
+mark true m = 1
+mark false m = m
+
+-- the mark of row v after the mutations at site row i: 1 where it has one, and else as it was
+unfoldable pub markAfter : MutationColumns → ℕ → List ℕ → ℕ → ℕ
+unfolding mark carries mutsOf
+markAfter M i has v = mark (carries (mutsOf (λ r. r) M) i v) (at has v)
+
+-- the state of row v after the mutations at site row i: that of its last one, and else as it was
+unfoldable pub stateAfter : MutationColumns → ℕ → List ℕ → ℕ → ℕ
+unfolding lastState mutsOf
+stateAfter M i state v = lastState i v (mutsOf (λ r. r) M) (at state v)
+
+-- the row has the mark 1
+unfoldable pub marked : List ℕ → ℕ → Bool
+marked has v = eqb (at has v) 1
+
+-- the marks of n rows at site row i
+unfoldable pub marksOf : MutationColumns → ℕ → ℕ → List ℕ
+unfolding mark carries mutsOf rows
+marksOf M i n = rows (λ v. mark (carries (mutsOf (λ r. r) M) i v) 0) n
+
+-- the last states of n rows at site row i
+unfoldable pub statesOf : MutationColumns → ℕ → ℕ → ℕ → List ℕ
+unfolding lastState mutsOf rows
+statesOf M i other n = rows (λ v. lastState i v (mutsOf (λ r. r) M) other) n

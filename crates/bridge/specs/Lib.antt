@@ -1,0 +1,4 @@
+-- Rows and births name the same forest.
+pub mod Rename
+pub mod Columns
+pub mod Sites
