@@ -73,17 +73,21 @@ module _ (marks : List ℕ) (p : ℕ) (h : p < length marks) where
 
   pub set-bits : Bits marks → Bits (set marks p 1)
   unfolding bit
-  set-bits b = record { cell = λ v l. ⊎-elim
-      (λ (q : v ≡ p). rw q (getD-set-same marks p 1 0 h ∙ ap bit (sym set-marked)))
-      (λ (q : v ≡ p → ⊥). getD-set-other marks p v 1 0 q ∙ b .cell v (rw length-set at l) ∙ ap bit (sym (set-other v q)))
-      (eq? v p) }
+  set-bits b = record {
+    cell = λ v l. ⊎-elim
+        (λ (q : v ≡ p). rw q (getD-set-same marks p 1 0 h ∙ ap bit (sym set-marked)))
+        (λ (q : v ≡ p → ⊥). getD-set-other marks p v 1 0 q ∙ b .cell v (rw length-set at l) ∙ ap bit (sym (set-other v q)))
+        (eq? v p);
+  }
 
   module _ (P : Par) (u : ℕ) (e : P u ≡ some p) where
     pub set-closed : ClosedBut P u marks → ClosedBut P p (set marks p 1)
-    set-closed k = record { parent = λ v q n f m. ⊎-elim
-        (λ (z : v ≡ u). rw (some-inj (rw z at f) e) set-marked)
-        (λ (z : v ≡ u → ⊥). set-keeps q (k .parent v q z f (sym (set-other v n) ∙ m)))
-        (eq? v u) }
+    set-closed k = record {
+      parent = λ v q n f m. ⊎-elim
+          (λ (z : v ≡ u). rw (some-inj (rw z at f) e) set-marked)
+          (λ (z : v ≡ u → ⊥). set-keeps q (k .parent v q z f (sym (set-other v n) ∙ m)))
+          (eq? v u);
+    }
 
     -- u's parent is marked now, and what is above it after
     pub mark-on : (age : ℕ → ℕ) → Aged P age → (after : List ℕ) → MarkedUp P p (set marks p 1) after → MarkedUp P u marks after

@@ -130,8 +130,8 @@ module _ (L : ℕ) (time : ℕ → ℕ) (D : ℕ → Par) where
     unfolding edgesFor
     edges-whole = all-each (λ p. each (λ c. runs p c (λ x. is (D x c) p) none 0 L) (sort ltb fish)) (sort (before time) fish) (λ p m.
         all-each (λ c. runs p c (λ x. is (D x c) p) none 0 L) (sort ltb fish) (λ c k.
-            all-to (λ e w. let o : Of p c (λ x. is (D x c) p) L e = w .1 in longest-of e c (e .child) p (e .parent) (sym (o .child)) (sym (o .parent)) (w .0))
-            (all-both (runs-longest p c (λ x. is (D x c) p) L none 0 L (start p c) (omega arith)) (runs-of-both p c (λ x. is (D x c) p) L none 0 L))))
+        all-to (λ e w. let o : Of p c (λ x. is (D x c) p) L e = w .1 in longest-of e c (e .child) p (e .parent) (sym (o .child)) (sym (o .parent)) (w .0))
+        (all-both (runs-longest p c (λ x. is (D x c) p) L none 0 L (start p c) (omega arith)) (runs-of-both p c (λ x. is (D x c) p) L none 0 L))))
 
     module _ (named : (x b p : ℕ) → x < L → D x b ≡ some p → (mem b fish ≡ true) × (mem p fish ≡ true)) where
       pub edges-cover : Covers (edgesFor L time D fish)

@@ -31,13 +31,13 @@ module _ (x y : ℕ) (le : x ≤ y) where
   unfolding holds
   holds-still b e s = bool-ext
       (λ h.
-          let p : _ = and-of (eqb (e .child) b) (and (leb (e .left) x) (ltb x (e .right))) h in
-          let q : _ = and-of (leb (e .left) x) (ltb x (e .right)) (p .1) in
-          and-yes (p .0) (and-yes (le-leb (e .left) y (omega (arith, leb-true (e .left) x (q .0)))) (lt-ltb y (e .right) (s .ends (ltb-true x (e .right) (q .1))))))
+      let p : _ = and-of (eqb (e .child) b) (and (leb (e .left) x) (ltb x (e .right))) h in
+      let q : _ = and-of (leb (e .left) x) (ltb x (e .right)) (p .1) in
+      and-yes (p .0) (and-yes (le-leb (e .left) y (omega (arith, leb-true (e .left) x (q .0)))) (lt-ltb y (e .right) (s .ends (ltb-true x (e .right) (q .1))))))
       (λ h.
-          let p : _ = and-of (eqb (e .child) b) (and (leb (e .left) y) (ltb y (e .right))) h in
-          let q : _ = and-of (leb (e .left) y) (ltb y (e .right)) (p .1) in
-          and-yes (p .0) (and-yes (le-leb (e .left) x (begun (leb-true (e .left) y (q .0)))) (lt-ltb x (e .right) (omega (arith, ltb-true y (e .right) (q .1))))))
+      let p : _ = and-of (eqb (e .child) b) (and (leb (e .left) y) (ltb y (e .right))) h in
+      let q : _ = and-of (leb (e .left) y) (ltb y (e .right)) (p .1) in
+      and-yes (p .0) (and-yes (le-leb (e .left) x (begun (leb-true (e .left) y (q .0)))) (lt-ltb x (e .right) (omega (arith, ltb-true y (e .right) (q .1))))))
     where
       begun : e .left ≤ y → e .left ≤ x
       begun l = not-later (e .left) x y l (s .begins)

@@ -1,0 +1,2 @@
+-- From rows, which the code goes by, to births, which 01 speaks of.
+pub mod Named
