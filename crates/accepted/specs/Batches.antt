@@ -73,15 +73,17 @@ module _ (B : BatchTables) (rest : Answer) where
   batch-shaped h =
       let n : _ = passed-even (B .nodes .time) (B .nodes .birth ∷ []) 20 1 _ (omega arith) h in
       let e : _ = passed-even (B .edges .left) (B .edges .right ∷ B .edges .parent ∷ B .edges .child ∷ []) 20 2 _ (omega arith) (n .1) in
-      let m : _ = passed-even (B .muts .site) (B .muts .node ∷ B .muts .derived ∷ []) 20 4 rest (omega arith) (e .1) in
-      (record {
-        births = first-of (n .0);
-        rights = first-of (e .0);
-        parents = first-of (rest-of (e .0));
-        children = first-of (rest-of (rest-of (e .0)));
-        mutated = first-of (m .0);
-        derived = first-of (rest-of (m .0));
-      }, m .1)
+      let m : _ = passed-even (B .muts .site) (B .muts .node ∷ B .muts .derived ∷ []) 20 4 rest (omega arith) (e .1) in (
+        record {
+          births = first-of (n .0);
+          rights = first-of (e .0);
+          parents = first-of (rest-of (e .0));
+          children = first-of (rest-of (rest-of (e .0)));
+          mutated = first-of (m .0);
+          derived = first-of (rest-of (m .0));
+        },
+        m .1,
+      )
 
   of-batch-shaped : BatchShaped B → batchShapes B rest ≡ rest
   unfolding batchShapes
@@ -165,16 +167,18 @@ module _ (L : ℕ) (T : Tables) (B : BatchTables) (rest : Answer) where
       let b : _ = passed-rows 23 (batchEdge L (T .nodes) (B .nodes) (B .edges)) (length (B .edges .left)) _ (omega arith) (a .1) in
       let c : _ = passed-rows 24 (edgeShared (B .edges)) (length (B .edges .left)) _ (omega arith) (b .1) in
       let d : _ = passed-rows 25 (batchMutation (length (T .sites .position)) (B .nodes .birth) (B .muts)) (length (B .muts .site)) _ (omega arith) (c .1) in
-      let e : _ = passed-rows 26 (mutationAbove (edgesWith T B) (T .sites .position) (λ b. b) (B .muts)) (length (B .muts .site)) rest (omega arith) (d .1) in
-      (record {
-        fresh = λ i k. birth-right (T .nodes .birth) (B .nodes .birth) i (a .0 i k) .0;
-        once = λ i j l k. not-repeated (B .nodes .birth) i (birth-right (T .nodes .birth) (B .nodes .birth) i (a .0 i k) .1) j l;
-        edge = λ i k. batch-edge-right L (T .nodes) (B .nodes) (B .edges) i (b .0 i k);
-        single = λ i j x l k. not-shared (B .edges) i (c .0 i k) j x l;
-        site-row = λ i k. batch-mutation-right (length (T .sites .position)) (B .nodes .birth) (B .muts) i (d .0 i k) .0;
-        node-in = λ i k. batch-mutation-right (length (T .sites .position)) (B .nodes .birth) (B .muts) i (d .0 i k) .1;
-        downwards = λ i j l k. not-over (edgesWith T B) (T .sites .position) (λ b. b) (B .muts) i (e .0 i k) j l;
-      }, e .1)
+      let e : _ = passed-rows 26 (mutationAbove (edgesWith T B) (T .sites .position) (λ b. b) (B .muts)) (length (B .muts .site)) rest (omega arith) (d .1) in (
+        record {
+          fresh = λ i k. birth-right (T .nodes .birth) (B .nodes .birth) i (a .0 i k) .0;
+          once = λ i j l k. not-repeated (B .nodes .birth) i (birth-right (T .nodes .birth) (B .nodes .birth) i (a .0 i k) .1) j l;
+          edge = λ i k. batch-edge-right L (T .nodes) (B .nodes) (B .edges) i (b .0 i k);
+          single = λ i j x l k. not-shared (B .edges) i (c .0 i k) j x l;
+          site-row = λ i k. batch-mutation-right (length (T .sites .position)) (B .nodes .birth) (B .muts) i (d .0 i k) .0;
+          node-in = λ i k. batch-mutation-right (length (T .sites .position)) (B .nodes .birth) (B .muts) i (d .0 i k) .1;
+          downwards = λ i j l k. not-over (edgesWith T B) (T .sites .position) (λ b. b) (B .muts) i (e .0 i k) j l;
+        },
+        e .1,
+      )
 
   of-batch-ruled : BatchRuled L T B → batchRules L T B rest ≡ rest
   unfolding batchRules

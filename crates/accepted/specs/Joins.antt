@@ -59,7 +59,7 @@ module _ (m : Limits) (L : ℕ) (T : Tables) (B : BatchTables) (s : Sound m L T)
       go (i, r) = (
         subst (λ (b : ℕ). mem b born ≡ true) (r .of-child) (child-known i (r .is-row)),
         subst (λ (b : ℕ). (mem b born ≡ true) ⊎ (mem b base ≡ true)) (r .to-parent) (parent-known i (r .is-row)),
-        subst (λ (b : ℕ). timeIn (T .nodes) (B .nodes) b < timeIn (T .nodes) (B .nodes) q) (r .of-child) (subst (λ (b : ℕ). timeIn (T .nodes) (B .nodes) (at (B .edges .child) i) < timeIn (T .nodes) (B .nodes) b) (r .to-parent) (t .rows .edge i (r .is-row) .older))
+        subst (λ (b : ℕ). timeIn (T .nodes) (B .nodes) b < timeIn (T .nodes) (B .nodes) q) (r .of-child) (subst (λ (b : ℕ). timeIn (T .nodes) (B .nodes) (at (B .edges .child) i) < timeIn (T .nodes) (B .nodes) b) (r .to-parent) (t .rows .edge i (r .is-row) .older)),
       )
 
   ends-in : All (λ (e : Edge). ((mem (e .parent) born ≡ true) ⊎ (mem (e .parent) base ≡ true)) × (mem (e .child) born ≡ true)) (edgesOf (λ b. b) (B .edges))

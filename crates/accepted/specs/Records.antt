@@ -70,11 +70,10 @@ module _ (L : ℕ) (N : NodeColumns) (E : EdgeColumns) (even : length (N .birth)
       go (i, r) =
           let e : EdgeRight L (N .time) E i = s .edge i (r .is-row) in
           let c : timeOf (nodesOf N) v ≡ at (N .time) (at (E .child) i) = subst (λ (b : ℕ). timeOf (nodesOf N) b ≡ at (N .time) (at (E .child) i)) (r .of-child) (time-of N even (s .once) (at (E .child) i) (e .child-row)) in
-          let p : timeOf (nodesOf N) q ≡ at (N .time) (at (E .parent) i) = subst (λ (b : ℕ). timeOf (nodesOf N) b ≡ at (N .time) (at (E .parent) i)) (r .to-parent) (time-of N even (s .once) (at (E .parent) i) (e .parent-row)) in
-          (
+          let p : timeOf (nodesOf N) q ≡ at (N .time) (at (E .parent) i) = subst (λ (b : ℕ). timeOf (nodesOf N) b ≡ at (N .time) (at (E .parent) i)) (r .to-parent) (time-of N even (s .once) (at (E .parent) i) (e .parent-row)) in (
             subst (λ (b : ℕ). mem b (births (nodesOf N)) ≡ true) (r .of-child) (row-known (at (E .child) i) (e .child-row)),
             subst (λ (b : ℕ). mem b (births (nodesOf N)) ≡ true) (r .to-parent) (row-known (at (E .parent) i) (e .parent-row)),
-            omega (arith, e .older)
+            omega (arith, e .older),
           )
 
   one-parent : (x v q r : ℕ) → Any (Cov x v q) (edgesOf (at (N .birth)) E) → Any (Cov x v r) (edgesOf (at (N .birth)) E) → q ≡ r

@@ -132,6 +132,11 @@ module _ (m : Limits) (L : ℕ) (T : Tables) (S : List ℕ) (g : Ground m L T S)
         ap₂ (λ z w. stands z P' w (at birth u)) (births-are ∙ sym names) (sym sample-names)
         ∙ stands-names n (at birth) (forestRow E x) P' ren SR samples-inside (allRows n) rows-inside u l
 
+    -- the cleaned forest by births, written out
+    pub birth-forest : (b : ℕ) → drawn P' (stands (births (R .nodes)) P' S) b ≡ forestAt stands R S x b
+    unfolding forestAt standsAt
+    birth-forest b = refl
+
     -- the output parent by births is the name of the output parent by rows
     pub up-row : (u : ℕ) → u < n → forestAt stands R S x (at birth u) ≡ mapOption (at birth) (upRow E n SR x u)
     unfolding forestAt upRow

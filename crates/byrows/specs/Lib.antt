@@ -2,3 +2,4 @@
 pub mod Named
 pub mod Rows
 pub mod Ground
+pub mod Kept
