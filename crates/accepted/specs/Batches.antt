@@ -1,8 +1,8 @@
 -- What the checks 20 to 26 of a batch find: facts by rows that an answer 0 tells, and that leave only what comes after.
-use mathlib.Core.Path.{_≡_, refl, ap, _∙_}
+use mathlib.Core.Path.{_≡_, ap, _∙_}
 use mathlib.Core.Bool.{Bool, true, false, not}
 use mathlib.Core.List.{List, [], _∷_, _++_}
-use mathlib.Core.Logic.{_⊎_, inl, inr, ⊎-elim}
+use mathlib.Core.Logic.{_⊎_, inl, inr}
 use Prim.Native.Nat.{ℕ, _+_, _<_, _≤_}
 use native.Mathlib.Omega.{arith}
 use lib.Dec.{leb, ltb}
@@ -13,7 +13,7 @@ use Rattle.meaning.specs.Rows.{NodeColumns, EdgeColumns, MutationColumns, Table
 use Rattle.meaning.specs.Answer.{Answer, Limits}
 use Rattle.meaning.specs.Check.{repeated, edgeShared, mutationAbove}
 use Rattle.meaning.specs.Join.{BatchTables, batchBirth, timeIn, batchEdge, batchMutation, batchShapes, batchSizes, batchRules}
-use Rattle.laws.specs.Bools.{or-of, or-no, or-left, or-right, not-no, not-true}
+use Rattle.laws.specs.Bools.{or-of, or-no, or-left, or-right, not-no}
 use Rattle.laws.specs.Facts.{All}
 use Rattle.laws.specs.Facts.All.{also}
 use Rattle.accepted.specs.Refusals.{Accepted, passed-rows, pass-rows, passed-even, pass-even, passed-few, pass-few, first-of, rest-of}

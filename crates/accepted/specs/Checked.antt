@@ -1,15 +1,13 @@
 -- What the checks 1 to 12 find: facts by rows that an answer 0 tells, and that leave only what comes after the checks.
-use mathlib.Core.Path.{_≡_, refl, sym, ap, _∙_}
-use mathlib.Core.Bool.{Bool, true, false}
+use mathlib.Core.Path.{_≡_, _∙_}
+use mathlib.Core.Bool.{true}
 use mathlib.Core.List.{List, [], _∷_}
-use Prim.Native.Nat.{ℕ, zero, suc, _<_, _≤_}
+use Prim.Native.Nat.{ℕ, suc, _<_, _≤_}
 use native.Mathlib.Omega.{arith}
-use lib.Dec.{ltb}
 use lib.ListN.{length}
-use borrow.Author.Tests.{ltb-false, le-ltb}
 use Rattle.meaning.specs.Words.{at, mem, lex}
 use Rattle.meaning.specs.Rows.{NodeColumns, EdgeColumns, Tables, edgesOf}
-use Rattle.meaning.specs.Answer.{Answer, Limits, refuse, refuseRow}
+use Rattle.meaning.specs.Answer.{Answer, Limits}
 use Rattle.meaning.specs.Check.{repeated, edgeBroken, keyOf, edgeUnordered, edgeShared, siteBroken, mutationBroken, mutationAbove, sampleUnknown, lengthBroken, shapes, sizes, treeRules, siteRules, rules, checkThen, sampleRules, checkAllThen}
 use Rattle.laws.specs.Facts.{All}
 use Rattle.laws.specs.Facts.All.{also}

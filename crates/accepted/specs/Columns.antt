@@ -1,5 +1,5 @@
 -- Columns and the rows made of them: what holds of each row holds of the list, and what a list has stands in a row.
-use mathlib.Core.Path.{_≡_, refl, sym, ap, _∙_}
+use mathlib.Core.Path.{_≡_, refl, sym, ap, subst, _∙_}
 use mathlib.Core.Bool.{Bool, true, false}
 use mathlib.Core.List.{List, [], _∷_, map}
 use mathlib.Core.Logic.{_⊎_, inl, inr, ⊎-elim}
@@ -7,9 +7,9 @@ use Prim.Native.Nat.{ℕ, zero, suc, _+_, _<_, _≤_}
 use native.Mathlib.Omega.{arith}
 use lib.Dec.{eqb}
 use lib.ListN.{length}
-use borrow.Author.Tests.{eqb-true, eqb-false, eq-eqb, ne-eqb}
+use borrow.Author.Tests.{eqb-true, eq-eqb, ne-eqb}
 use Rattle.meaning.specs.Words.{at, mem, rows, rowsFrom, indexOf}
-use Rattle.meaning.specs.Rows.{NodeColumns, EdgeColumns, SiteColumns, Node, Edge, Site, births, nodesOf, edgesOf, sitesOf, nodeOf, timeOf, posOf}
+use Rattle.meaning.specs.Rows.{NodeColumns, SiteColumns, Node, Edge, Site, births, nodesOf, sitesOf, nodeOf, timeOf, posOf}
 use Rattle.laws.specs.Bools.{clash, not-true, eq?}
 use Rattle.laws.specs.Counting.{rows-at, map-rows}
 use Rattle.laws.specs.Members.{index-at, index-below}
@@ -96,6 +96,17 @@ births-of N e =
     ∙ ap (rows (at (N .birth))) (sym e)
     ∙ rows-at (N .birth)
 
+-- a number of the column is a birth of the nodes, and back
+pub birth-in : (N : NodeColumns) → length (N .birth) ≡ length (N .time) → (b : ℕ) → mem b (N .birth) ≡ true → mem b (births (nodesOf N)) ≡ true
+birth-in N e b h = subst (λ (l : List ℕ). mem b l ≡ true) (sym (births-of N e)) h
+
+pub birth-out : (N : NodeColumns) → length (N .birth) ≡ length (N .time) → (b : ℕ) → mem b (births (nodesOf N)) ≡ true → mem b (N .birth) ≡ true
+birth-out N e b h = subst (λ (l : List ℕ). mem b l ≡ true) (births-of N e) h
+
+pub births-once : (N : NodeColumns) → length (N .birth) ≡ length (N .time) → Apart (N .birth) → Distinct (births (nodesOf N))
+births-once N e h = subst (λ (l : List ℕ). Distinct l) (sym (births-of N e)) (distinct-of (N .birth) h)
+
+-- the first row of a list is the row of b, or the row of b is in the rest
 node-hit : (n : Node) (l : List Node) (b : ℕ) → n .birth ≡ b → nodeOf (n ∷ l) b ≡ n
 unfolding nodeOf
 node-hit n l b e = rw (eq-eqb (n .birth) b e, nodeOf)

@@ -1,56 +1,47 @@
 -- A batch that the checks find sound, over sound base tables, has the facts on which the theorems of joining stand.
-use mathlib.Core.Path.{_≡_, refl, sym, subst, _∙_}
-use mathlib.Core.Bool.{Bool, true, false}
-use mathlib.Core.List.{List, [], _∷_, _++_}
+use mathlib.Core.Path.{_≡_, subst}
+use mathlib.Core.Bool.{true, false}
+use mathlib.Core.List.{List}
 use mathlib.Core.Logic.{_⊎_, inl, inr}
-use Prim.Native.Nat.{ℕ, _<_, _≤_}
-use native.Mathlib.Omega.{arith}
+use Prim.Native.Nat.{ℕ, _<_}
 use lib.ListN.{length}
 use Rattle.meaning.specs.Words.{at, mem, indexOf}
-use Rattle.meaning.specs.Rows.{NodeColumns, EdgeColumns, Tables, Edge, Mutation, births, nodesOf, edgesOf, sitesOf, mutsOf, recordOf, timeOf, posOf}
+use Rattle.meaning.specs.Rows.{Tables, Edge, Mutation, births, nodesOf, edgesOf, sitesOf, mutsOf, recordOf, posOf}
 use Rattle.meaning.specs.Answer.{Limits}
 use Rattle.meaning.specs.Join.{BatchTables, batchOf, timeIn}
 use Rattle.laws.specs.Bools.{clash}
 use Rattle.laws.specs.Members.{index-at, index-below}
-use Rattle.laws.specs.Facts.{Any, All, Cov, Distinct, parents, JoinOk}
+use Rattle.laws.specs.Facts.{Any, All, Cov, parents, JoinOk}
 use Rattle.accepted.specs.Checked.{Sound}
-use Rattle.accepted.specs.Columns.{all-rows, any-row, distinct-of, births-of, parent-any}
+use Rattle.accepted.specs.Columns.{all-rows, any-row, birth-in, birth-out, births-once, parent-any}
 use Rattle.accepted.specs.Records.{Young, young-of, Row, row-of, single-of, site-within}
-use Rattle.accepted.specs.Batches.{BatchEdgeRight, BatchSound}
+use Rattle.accepted.specs.Batches.{BatchSound}
 
 module _ (m : Limits) (L : ℕ) (T : Tables) (B : BatchTables) (s : Sound m L T) (t : BatchSound m L T B) where
+  -- the births of the base and of the batch
   abbrev base : List ℕ
   base = births (nodesOf (T .nodes))
 
   abbrev born : List ℕ
   born = births (nodesOf (B .nodes))
 
-  -- a birth of the column is one of the record
-  in-base : (b : ℕ) → mem b (T .nodes .birth) ≡ true → mem b base ≡ true
-  in-base b h = subst (λ (l : List ℕ). mem b l ≡ true) (sym (births-of (T .nodes) (s .shape .births))) h
-
-  in-born : (b : ℕ) → mem b (B .nodes .birth) ≡ true → mem b born ≡ true
-  in-born b h = subst (λ (l : List ℕ). mem b l ≡ true) (sym (births-of (B .nodes) (t .shape .births))) h
-
-  once-born : Distinct born
-  once-born = subst (λ (l : List ℕ). Distinct l) (sym (births-of (B .nodes) (t .shape .births))) (distinct-of (B .nodes .birth) (t .rows .once))
-
+  -- no batch birth is the base's
   newly-born : (b : ℕ) → mem b born ≡ true → mem b base ≡ true → ⊥
   newly-born b p q =
-      let k : mem b (B .nodes .birth) ≡ true = subst (λ (l : List ℕ). mem b l ≡ true) (births-of (B .nodes) (t .shape .births)) p in
+      let k : mem b (B .nodes .birth) ≡ true = birth-out (B .nodes) (t .shape .births) b p in
       let n : mem b (T .nodes .birth) ≡ false = subst (λ (c : ℕ). mem c (T .nodes .birth) ≡ false) (index-at b (B .nodes .birth) k) (t .rows .fresh (indexOf b (B .nodes .birth)) (index-below b (B .nodes .birth) k)) in
-      clash (subst (λ (l : List ℕ). mem b l ≡ true) (births-of (T .nodes) (s .shape .births)) q) n
+      clash (birth-out (T .nodes) (s .shape .births) b q) n
 
   -- the parent of a batch edge is known, and its child is born
   parent-known : (i : ℕ) → i < length (B .edges .left) → (mem (at (B .edges .parent) i) born ≡ true) ⊎ (mem (at (B .edges .parent) i) base ≡ true)
   parent-known i l = go (t .rows .edge i l .parent-in)
     where
       go : (mem (at (B .edges .parent) i) (T .nodes .birth) ≡ true) ⊎ (mem (at (B .edges .parent) i) (B .nodes .birth) ≡ true) → (mem (at (B .edges .parent) i) born ≡ true) ⊎ (mem (at (B .edges .parent) i) base ≡ true)
-      go (inl h) = inr (in-base (at (B .edges .parent) i) h)
-      go (inr h) = inl (in-born (at (B .edges .parent) i) h)
+      go (inl h) = inr (birth-in (T .nodes) (s .shape .births) (at (B .edges .parent) i) h)
+      go (inr h) = inl (birth-in (B .nodes) (t .shape .births) (at (B .edges .parent) i) h)
 
   child-known : (i : ℕ) → i < length (B .edges .left) → mem (at (B .edges .child) i) born ≡ true
-  child-known i l = in-born (at (B .edges .child) i) (t .rows .edge i l .child-in)
+  child-known i l = birth-in (B .nodes) (t .shape .births) (at (B .edges .child) i) (t .rows .edge i l .child-in)
 
   batch-edge-of : (x v q : ℕ) → Any (Cov x v q) (edgesOf (λ b. b) (B .edges)) → (mem v born ≡ true) × ((mem q born ≡ true) ⊎ (mem q base ≡ true)) × (timeIn (T .nodes) (B .nodes) v < timeIn (T .nodes) (B .nodes) q)
   batch-edge-of x v q h = go (row-of (λ b. b) (B .edges) x v q h)
@@ -74,12 +65,12 @@ module _ (m : Limits) (L : ℕ) (T : Tables) (B : BatchTables) (s : Sound m L T)
 
   muts-in : All (λ (u : Mutation). (mem (u .node) born ≡ true) × (posOf (sitesOf (T .sites)) (u .site) < L)) (mutsOf (λ b. b) (B .muts))
   unfolding mutsOf
-  muts-in = all-rows (λ (u : Mutation). (mem (u .node) born ≡ true) × (posOf (sitesOf (T .sites)) (u .site) < L)) (λ i. record { site = at (B .muts .site) i; node = at (B .muts .node) i; derived = at (B .muts .derived) i }) (length (B .muts .site)) (λ i l. (in-born (at (B .muts .node) i) (t .rows .node-in i l), site-within m L T s (at (B .muts .site) i) (t .rows .site-row i l)))
+  muts-in = all-rows (λ (u : Mutation). (mem (u .node) born ≡ true) × (posOf (sitesOf (T .sites)) (u .site) < L)) (λ i. record { site = at (B .muts .site) i; node = at (B .muts .node) i; derived = at (B .muts .derived) i }) (length (B .muts .site)) (λ i l. (birth-in (B .nodes) (t .shape .births) (at (B .muts .node) i) (t .rows .node-in i l), site-within m L T s (at (B .muts .site) i) (t .rows .site-row i l)))
 
   pub join-ok-of : Young (B .nodes) → JoinOk (recordOf L T) (batchOf B)
   unfolding recordOf batchOf timeIn
   join-ok-of y = record {
-    once = once-born;
+    once = births-once (B .nodes) (t .shape .births) (t .rows .once);
     fresh = newly-born;
     young = young-of (B .nodes) y;
     edge = batch-edge-of;

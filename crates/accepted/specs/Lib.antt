@@ -7,3 +7,6 @@ pub mod Columns
 pub mod Records
 pub mod Batches
 pub mod Joins
+pub mod Rooms
+pub mod Calls
+pub mod Numbers

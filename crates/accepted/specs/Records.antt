@@ -1,21 +1,21 @@
 -- Tables that the checks find sound mean a record with the facts on which the theorems of cleaning and joining stand.
-use mathlib.Core.Path.{_≡_, refl, sym, subst, _∙_}
-use mathlib.Core.Bool.{Bool, true, false}
-use mathlib.Core.List.{List, [], _∷_}
+use mathlib.Core.Path.{_≡_, sym, subst, _∙_}
+use mathlib.Core.Bool.{true}
+use mathlib.Core.List.{List}
 use mathlib.Core.Logic.{_⊎_, inl, inr}
-use Prim.Native.Nat.{ℕ, suc, _<_, _≤_}
+use Prim.Native.Nat.{ℕ, _<_}
 use native.Mathlib.Omega.{arith}
 use lib.ListN.{length}
 use Rattle.meaning.specs.Words.{at, mem, indexOf}
-use Rattle.meaning.specs.Rows.{NodeColumns, EdgeColumns, MutationColumns, Tables, Node, Edge, Mutation, births, nodesOf, edgesOf, sitesOf, mutsOf, recordOf, timeOf, posOf}
+use Rattle.meaning.specs.Rows.{NodeColumns, EdgeColumns, Tables, Node, Edge, Mutation, births, nodesOf, edgesOf, sitesOf, mutsOf, recordOf, timeOf, posOf}
 use Rattle.meaning.specs.Forest.{Ages}
 use Rattle.meaning.specs.Answer.{Limits}
 use Rattle.laws.specs.Members.{at-mem, index-at, index-below}
-use Rattle.laws.specs.Facts.{Any, All, Cov, Distinct, In, Good, Closed, CleanOk}
+use Rattle.laws.specs.Facts.{Any, All, Cov, Good, Closed, CleanOk}
 use Rattle.accepted.specs.Orders.{either-way}
 use Rattle.accepted.specs.Tests.{EdgeRight, Holds}
-use Rattle.accepted.specs.Checked.{TreeSound, SitesSound, Sound, Listed}
-use Rattle.accepted.specs.Columns.{all-rows, any-row, distinct-of, same-row, births-of, time-of, time-below, pos-of}
+use Rattle.accepted.specs.Checked.{TreeSound, Sound, Listed}
+use Rattle.accepted.specs.Columns.{all-rows, any-row, distinct-of, same-row, birth-in, births-once, time-of, time-below, pos-of}
 
 -- columns hold u32: every time is below 2 to the 32
 abbrev pub Young : NodeColumns → Type 0
@@ -57,11 +57,8 @@ module _ (name : ℕ → ℕ) (E : EdgeColumns) where
 -- ---- nodes and edges
 
 module _ (L : ℕ) (N : NodeColumns) (E : EdgeColumns) (even : length (N .birth) ≡ length (N .time)) (s : TreeSound L N E) where
-  pub row-known : (i : ℕ) → i < length (N .time) → mem (at (N .birth) i) (births (nodesOf N)) ≡ true
-  row-known i l = subst (λ (b : List ℕ). mem (at (N .birth) i) b ≡ true) (sym (births-of N even)) (at-mem (N .birth) i (omega arith))
-
-  once-of : Distinct (births (nodesOf N))
-  once-of = subst (λ (b : List ℕ). Distinct b) (sym (births-of N even)) (distinct-of (N .birth) (s .once))
+  row-known : (i : ℕ) → i < length (N .time) → mem (at (N .birth) i) (births (nodesOf N)) ≡ true
+  row-known i l = birth-in N even (at (N .birth) i) (at-mem (N .birth) i (omega arith))
 
   edge-of : (x v q : ℕ) → Any (Cov x v q) (edgesOf (at (N .birth)) E) → (mem v (births (nodesOf N)) ≡ true) × (mem q (births (nodesOf N)) ≡ true) × (timeOf (nodesOf N) v < timeOf (nodesOf N) q)
   edge-of x v q h = go (row-of (at (N .birth)) E x v q h)
@@ -103,7 +100,7 @@ module _ (m : Limits) (L : ℕ) (T : Tables) (s : Sound m L T) where
   pub good-of : Young (T .nodes) → Good (recordOf L T)
   unfolding recordOf
   good-of y = record {
-    once = once-of L (T .nodes) (T .edges) (s .shape .births) (s .tree);
+    once = births-once (T .nodes) (s .shape .births) (s .tree .once);
     young = young-of (T .nodes) y;
     edge = edge-of L (T .nodes) (T .edges) (s .shape .births) (s .tree);
     single = one-parent L (T .nodes) (T .edges) (s .shape .births) (s .tree);
@@ -123,5 +120,5 @@ module _ (m : Limits) (L : ℕ) (T : Tables) (s : Sound m L T) where
   clean-ok-of S h y = record {
     good = good-of y;
     distinct = distinct-of S (h .once);
-    listed = λ b k. subst (λ (l : List ℕ). mem b l ≡ true) (sym (births-of (T .nodes) (s .shape .births))) (subst (λ (c : ℕ). mem c (T .nodes .birth) ≡ true) (index-at b S k) (h .known (indexOf b S) (index-below b S k)));
+    listed = λ b k. birth-in (T .nodes) (s .shape .births) b (subst (λ (c : ℕ). mem c (T .nodes .birth) ≡ true) (index-at b S k) (h .known (indexOf b S) (index-below b S k)));
   }

@@ -1,13 +1,13 @@
 -- One refusal of a chain: an answer 0 tells that the test failed and the rest answered 0, and a failed test leaves the rest.
-use mathlib.Core.Path.{_≡_, refl, sym, ap, _∙_}
+use mathlib.Core.Path.{_≡_, refl, ap}
 use mathlib.Core.Bool.{Bool, true, false, not}
 use mathlib.Core.List.{List, [], _∷_}
-use Prim.Native.Nat.{ℕ, zero, suc, _<_, _≤_}
+use Prim.Native.Nat.{ℕ, _<_, _≤_}
 use native.Mathlib.Omega.{arith}
 use lib.Dec.{eqb, ltb}
 use lib.ListN.{length}
-use borrow.Author.Tests.{eqb-true, eq-eqb, ltb-false, le-ltb, ne-eqb}
-use Rattle.meaning.specs.Words.{any, or, lowest}
+use borrow.Author.Tests.{eqb-true, eq-eqb, ltb-false, le-ltb}
+use Rattle.meaning.specs.Words.{any, lowest}
 use Rattle.meaning.specs.Answer.{Answer, answer, done, refuse, refuseRow, accepted, ragged}
 use Rattle.laws.specs.Bools.{clash, not-no}
 use Rattle.laws.specs.Counting.{none-passes, lowest-none}
@@ -18,14 +18,9 @@ use Rattle.laws.specs.Facts.All.{also}
 abbrev pub Accepted : Answer → Type 0
 Accepted a = accepted a ≡ true
 
-pub done-accepted : Accepted done
+pub of-done : (a : Answer) → a ≡ done → Accepted a
 unfolding accepted
-done-accepted = refl
-
--- an answer 0 has no number
-pub accepted-number : (a : Answer) → Accepted a → a .number ≡ 0
-unfolding accepted
-accepted-number a h = eqb-true (a .number) 0 h
+of-done a e = rw e
 
 -- a refusal's number is not 0
 pub refused : (n r : ℕ) → 0 < n → Accepted (answer n r) → ⊥

@@ -1,14 +1,13 @@
 -- The rules' tests of one row as facts: a row that is not broken, and back.
-use mathlib.Core.Path.{_≡_, refl, sym, ap, _∙_}
+use mathlib.Core.Path.{_≡_, refl, ap}
 use mathlib.Core.Bool.{Bool, true, false, not}
-use mathlib.Core.List.{List, [], _∷_}
-use mathlib.Core.Logic.{_⊎_, inl, inr, ⊎-elim}
+use mathlib.Core.List.{List}
 use Prim.Native.Nat.{ℕ, zero, suc, _<_, _≤_}
 use native.Mathlib.Omega.{arith}
 use lib.Dec.{eqb, leb, ltb}
 use lib.ListN.{length}
-use borrow.Author.Tests.{eqb-true, eqb-false, eq-eqb, ne-eqb, ltb-true, ltb-false, lt-ltb, le-ltb, leb-true, leb-false, le-leb, lt-leb}
-use Rattle.meaning.specs.Words.{and, or, at, mem, anyBelow, lex}
+use borrow.Author.Tests.{eqb-true, eqb-false, eq-eqb, ne-eqb, ltb-true, ltb-false, lt-ltb, le-ltb, leb-true, leb-false, lt-leb}
+use Rattle.meaning.specs.Words.{or, at, mem, anyBelow, lex}
 use Rattle.meaning.specs.Rows.{NodeColumns, EdgeColumns, MutationColumns, Edge}
 use Rattle.meaning.specs.Forest.{parentIn, ancestor}
 use Rattle.meaning.specs.Answer.{longest}
