@@ -21,7 +21,7 @@ use Rattle.accepted.specs.Columns.{all-rows, distinct-of, same-row, births-of, 
 use Rattle.accepted.specs.Records.{Young, clean-ok-of}
 use Rattle.bridge.specs.Rename.{mapOption, Renamed}
 use Rattle.bridge.specs.Columns.{Within, renamed}
-use Rattle.byrows.specs.Named.{reached-names, stands-names, drawn-names, low-names}
+use Rattle.byrows.specs.Named.{reached-names, stands-names, drawn-names, low-names, low-within}
 use Rattle.byrows.specs.Rows.{allRows, sampleRows, forestRow, reachedRow, standsRow, upRow, lowRow}
 
 -- every member of a list of numbers passes
@@ -147,3 +147,8 @@ module _ (m : Limits) (L : ℕ) (T : Tables) (S : List ℕ) (g : Ground m L T S)
     low-row u l =
         ap (λ z. low z P' (reached P' S) (standsAt stands R S x) Ages (at birth u)) (births-are ∙ sym names)
         ∙ low-names n (at birth) (forestRow E x) P' ren (standsRow E n SR x) (standsAt stands R S x) stands-row (reachedRow E SR x) (reached P' S) reached-row (allRows n) rows-inside Ages u l
+
+    -- where the mutations of a row go is a row
+    pub low-inside : (u w : ℕ) → u < n → lowRow E n SR x u ≡ some w → w < n
+    unfolding lowRow
+    low-inside u w l h = low-within n (forestRow E x) (reachedRow E SR x) (standsRow E n SR x) (allRows n) rows-inside Ages u w l h

@@ -3,3 +3,4 @@ pub mod Named
 pub mod Rows
 pub mod Ground
 pub mod Kept
+pub mod Result

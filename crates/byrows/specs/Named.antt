@@ -117,3 +117,21 @@ module _ (n : ℕ) (f : ℕ → ℕ) (P P' : Par) (ren : Renamed n f P P') where
     pub stands-names : (N : List ℕ) → All (λ v. v < n) N → (u : ℕ) → u < n → stands (map f N) P' (map f S) (f u) ≡ stands N P S u
     unfolding stands
     stands-names N x u l = ap₂ or (mem-names n f (ren .apart) u l S inside) (ap (leb 2) (count-names n f (feeds P (reached P S) u) (feeds P' (reached P' (map f S)) (f u)) (λ v q. feeds-names (reached P S) (reached P' (map f S)) reached-names u v l q) N x))
+
+-- the nearest standing row below is a row
+pub low-within : (n : ℕ) (P : Par) (R K : ℕ → Bool) (N : List ℕ) → All (λ v. v < n) N → (k u w : ℕ) → u < n → low N P R K k u ≡ some w → w < n
+unfolding low
+low-within n P R K N a zero u w l h = go (K u) refl
+  where
+    go : (t : Bool) → K u ≡ t → w < n
+    go true e = rw (some-inj (rw (e, low) at h) refl) l
+    go false e = absurd (none-some refl (rw (e, low) at h))
+low-within n P R K N a (suc k) u w l h = go (K u) refl (λ c q i. low-within n P R K N a k c w q i)
+  where
+    down : K u ≡ false → (o : Option ℕ) → firstOf (feeds P R u) N ≡ o → ((c : ℕ) → c < n → low N P R K k c ≡ some w → w < n) → w < n
+    down e none f ih = absurd (none-some refl (rw f at (rw (e, low) at h)))
+    down e (some c) f ih = ih c (first-inside n (λ v. v) (feeds P R u) N c a f) (rw f at (rw (e, low) at h))
+
+    go : (t : Bool) → K u ≡ t → ((c : ℕ) → c < n → low N P R K k c ≡ some w → w < n) → w < n
+    go true e ih = rw (some-inj (rw (e, low) at h) refl) l
+    go false e ih = down e (firstOf (feeds P R u) N) refl ih
