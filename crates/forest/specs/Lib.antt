@@ -7,3 +7,4 @@ pub mod TreeLaws
 pub mod Lowest
 pub mod Position
 pub mod Code
+pub mod Carriers

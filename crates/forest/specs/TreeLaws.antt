@@ -22,7 +22,7 @@ pub record Aged (P : Par) (rank : ℕ → ℕ) : Type 0 where
   pub bound : {b p : ℕ} → P b ≡ some p → rank p < Ages
 
 module _ (P : Par) where
-  above-of : (k a b : ℕ) → above P k a b ≡ true → Above P a b
+  pub above-of : (k a b : ℕ) → above P k a b ≡ true → Above P a b
   unfolding above
   above-of zero a b h = above-eq (eqb-true a b h)
   above-of (suc k) a b h = go (eqb a b) refl (P b) refl (λ p m. above-of k a p m)
@@ -33,7 +33,7 @@ module _ (P : Par) where
       go false e (some p) f ih = step f (ih p (rw f at (rw (e, above) at h)))
 
   module _ (rank : ℕ → ℕ) (ok : Aged P rank) where
-    of-above : (k a b : ℕ) → Ages ≤ k + rank b → Above P a b → above P k a b ≡ true
+    pub of-above : (k a b : ℕ) → Ages ≤ k + rank b → Above P a b → above P k a b ≡ true
     unfolding above
     of-above zero a b l here = eq-eqb a a refl
     of-above zero a b l (step e x) = absurd (omega (arith, ok .ranked .grows e, ok .bound e))
@@ -96,7 +96,7 @@ module _ (P : Par) (rank : ℕ → ℕ) (ok : Aged P rank) (N : List ℕ) (nd : 
       go (inr m) = rw m (le-leb _ _ (count-two (feeds P (reached P S) u) c d N n (nd .listed e) (nd .listed f) (of-feeds P (reached P S) u c e (of-reached P rank ok S c r)) (of-feeds P (reached P S) u d f (of-reached P rank ok S d s))))
 
 module _ (P : Par) (K : ℕ → Bool) where
-  near-of : (k w v : ℕ) → near P K k v ≡ some w → Near P K w v
+  pub near-of : (k w v : ℕ) → near P K k v ≡ some w → Near P K w v
   unfolding near
   near-of zero w v h = go (K v) refl
     where
@@ -119,7 +119,7 @@ module _ (P : Par) (K : ℕ → Bool) where
       go (some p) f = (p, f, near-of Ages w p (rw (f, up) at h))
 
   module _ (rank : ℕ → ℕ) (ok : Aged P rank) where
-    of-near : (k w v : ℕ) → Ages ≤ k + rank v → Near P K w v → near P K k v ≡ some w
+    pub of-near : (k w v : ℕ) → Ages ≤ k + rank v → Near P K w v → near P K k v ≡ some w
     unfolding near
     of-near zero w v l (found e) = rw (e, near)
     of-near zero w v l (on e f x) = absurd (omega (arith, ok .ranked .grows f, ok .bound f))

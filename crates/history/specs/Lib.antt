@@ -12,3 +12,7 @@ pub mod Joined
 pub mod Step
 pub mod Tidy
 pub mod Run
+pub mod RowForm
+pub mod Calls
+pub mod AtSite
+pub mod Alleles

@@ -119,6 +119,10 @@ module _ {A : Type 0} {Q W : A → Type 0} where
   all-to h done = done
   all-to h (also q x) = also (h _ q) (all-to h x)
 
+  pub all-both : {l : List A} → All Q l → All W l → All (λ a. Q a × W a) l
+  all-both done done = done
+  all-both (also q x) (also w y) = also (q, w) (all-both x y)
+
 pub all-filter : {A : Type 0} {Q : A → Type 0} (f : A → Bool) (l : List A) → All Q l → All Q (filter f l)
 unfolding filter
 all-filter f [] done = done
