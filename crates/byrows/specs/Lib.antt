@@ -4,3 +4,4 @@ pub mod Rows
 pub mod Ground
 pub mod Kept
 pub mod Result
+pub mod Standing
