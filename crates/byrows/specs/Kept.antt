@@ -16,7 +16,7 @@ use Rattle.meaning.specs.Clean.{before, standsAt, forestAt, others, kept, edges
 use Rattle.laws.specs.Bools.{clash, bool-ext, some-inj, none-some}
 use Rattle.laws.specs.Members.{mem-here, mem-there, mem-cases, mem-nil}
 use Rattle.laws.specs.Facts.{Distinct, Any, now, later, All, done, also, Cov}
-use Rattle.forest.specs.Position.{stands-profile}
+use Rattle.forest.specs.Profile.{stands-profile}
 use Rattle.history.specs.Order.{Sorted, none-left, least, sorted-unique, before-order}
 use Rattle.history.specs.Kept.{chosen, not-sample, somewhere, of-somewhere, others-of, of-others, others-sorted, kept-distinct}
 use Rattle.history.specs.Cleaned.{kept-in, drawn-ends}

@@ -16,7 +16,7 @@ use Rattle.laws.specs.Bools.{none-some}
 use Rattle.laws.specs.Counting.{rows-at, map-rows, length-rows}
 use Rattle.laws.specs.Members.{mem-here, mem-there}
 use Rattle.laws.specs.Facts.{All, done, also}
-use Rattle.forest.specs.Position.{stands-profile}
+use Rattle.forest.specs.Profile.{stands-profile}
 use Rattle.history.specs.Lists.{all-app, all-to}
 use Rattle.history.specs.Cleaned.{clean-births}
 use Rattle.accepted.specs.Columns.{all-rows, pos-of}
