@@ -52,9 +52,21 @@ module _ (rule : Rules) where
   module _ (pr : Profile rule) where
     -- the records agree for every list of fish that are named later
     abbrev Agree : List Move → List ℕ → Record → Record → Type 0
-    Agree l S Q P = (F : List ℕ) → Distinct F → ((b : ℕ) → In F b → mem b (births (Q .nodes)) ≡ true) → ((b : ℕ) → In F b → mem b (births (P .nodes)) ≡ true) → ((b : ℕ) → In F b → Names l S b) → clean rule F Q ≡ clean rule F P
+    Agree l S Q P =
+        (F : List ℕ) → Distinct F →
+        ((b : ℕ) → In F b → mem b (births (Q .nodes)) ≡ true) →
+        ((b : ℕ) → In F b → mem b (births (P .nodes)) ≡ true) →
+        ((b : ℕ) → In F b → Names l S b) →
+        clean rule F Q ≡ clean rule F P
 
-    module _ (Q P : Record) (B : Batch) (l : List Move) (S : List ℕ) (gQ : Good Q) (gP : Good P) (jQ : JoinOk Q B) (jP : JoinOk P B) (ag : Agree (batch B ∷ l) S Q P) (F : List ℕ) (dF : Distinct F) (inQ : (b : ℕ) → In F b → mem b (births (join Q B .nodes)) ≡ true) (inP : (b : ℕ) → In F b → mem b (births (join P B .nodes)) ≡ true) (nm : (b : ℕ) → In F b → Names l S b) where
+    module _
+        (Q P : Record) (B : Batch) (l : List Move) (S : List ℕ)
+        (gQ : Good Q) (gP : Good P) (jQ : JoinOk Q B) (jP : JoinOk P B)
+        (ag : Agree (batch B ∷ l) S Q P)
+        (F : List ℕ) (dF : Distinct F)
+        (inQ : (b : ℕ) → In F b → mem b (births (join Q B .nodes)) ≡ true)
+        (inP : (b : ℕ) → In F b → mem b (births (join P B .nodes)) ≡ true)
+        (nm : (b : ℕ) → In F b → Names l S b) where
       abbrev NB : List ℕ
       NB = births (B .nodes)
 
