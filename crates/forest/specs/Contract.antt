@@ -172,4 +172,9 @@ module _ {P : Par} {K : ℕ → Bool} {Q : Par} (c : Contract P K Q) where
     low-in-P x y = record { in-set = y .in-set; below = trans (x .below) (order-in (y .below)); all = λ m z. order-in (y .all m (order-out (x .in-set) (sub _ m) (x .all (sub _ m) z))) }
 
     pub low-out-P : {u a w : ℕ} → Low P K a u → Low P M w u → Low Q M w a
-    low-out-P x y = record { in-set = y .in-set; below = order-out (x .in-set) (sub _ (y .in-set)) (x .all (sub _ (y .in-set)) (y .below)); all = λ m z. order-out (sub _ (y .in-set)) (sub _ m) (y .all m (trans (x .below) (order-in z))) }
+    low-out-P x y = record {
+      in-set = y .in-set;
+      below = order-out (x .in-set) (sub _ (y .in-set)) (x .all (sub _ (y .in-set)) (y .below));
+      all = λ m z. order-out
+          (sub _ (y .in-set)) (sub _ m) (y .all m (trans (x .below) (order-in z)));
+    }

@@ -79,7 +79,8 @@ module _ (P : Par) (rank : ℕ → ℕ) (ok : Aged P rank) (N : List ℕ) (nd : 
         go (inr c) = absurd (omega (arith, ok .ranked .grows (c .1)))
     of-low (suc k) u l r = go (K u) refl (child-to (r .2)) (λ c m s. of-low k c m s)
       where
-        go : (t : Bool) → K u ≡ t → (u ≡ r .0) ⊎ ((c : ℕ) × (P c ≡ some u) × Above P c (r .0)) → ((c : ℕ) → rank c ≤ k → Reached P (In S) c → (w : ℕ) × (low N P (reached P S) K k c ≡ some w)) → (w : ℕ) × (low N P (reached P S) K (suc k) u ≡ some w)
+        go : (t : Bool) → K u ≡ t → (u ≡ r .0) ⊎ ((c : ℕ) × (P c ≡ some u) × Above P c (r .0)) →
+            ((c : ℕ) → rank c ≤ k → Reached P (In S) c → (w : ℕ) × (low N P (reached P S) K k c ≡ some w)) → (w : ℕ) × (low N P (reached P S) K (suc k) u ≡ some w)
         go true e x ih = (u, rw (e, low))
         go false e (inl q) ih = absurd (clash (ru .samples {s = u} (rw q (r .1))) e)
         go false e (inr c) ih =

@@ -24,7 +24,8 @@ module _ (new : ℕ → Bool) (T B : Par) (rank : ℕ → ℕ) (S1 S2 : List ℕ
   kept = λ u. or (new u) (K u)
 
   pub drawn-join : Contract (joinPar new B T) kept (joinPar new B (drawn T K))
-  drawn-join = contract-join new (In S1) T B (st .batch) K (λ s m. ru .samples m) (joinPar new B T) (joinPar-joined new B T) (drawn T K) (joinPar new B (drawn T K)) (drawn-contract T K rank (st .base-aged)) (joinPar-joined new B (drawn T K))
+  drawn-join = contract-join new (In S1) T B (st .batch) K (λ s m. ru .samples m) (joinPar new B T) (joinPar-joined new B T) (drawn T K) (joinPar new B (drawn T K))
+      (drawn-contract T K rank (st .base-aged)) (joinPar-joined new B (drawn T K))
 
   pub kept-samples : (s : ℕ) → In S2 s → kept s ≡ true
   kept-samples s m = ⊎-elim (λ (e : new s ≡ true). or-left (K s) e) (λ (i : In S1 s). or-right (new s) (K s) (ru .samples i)) (st .from s m)
@@ -85,7 +86,8 @@ module _ (rule : Rules) (pr : Profile rule) (new : ℕ → Bool) (T B : Par) (ra
     step-low-new u l n = step-low u u l l (record { in-set = or-left (K u) n; below = here; all = λ m x. x })
 
     pub step-low-old : (u a : ℕ) → rank u ≤ Ages → rank a ≤ Ages → new u ≡ false → low NT T (reached T S1) K Ages u ≡ some a → lowThen a ≡ lowNow u
-    step-low-old u a l m n h = step-low u a l m (low-join new (In S1) T B (st .batch) K (λ s i. rule-T .samples i) J (joinPar-joined new B T) n (low-of T rank (st .base-aged) NT ndT S1 K rule-T Ages a u h))
+    step-low-old u a l m n h = step-low u a l m
+        (low-join new (In S1) T B (st .batch) K (λ s i. rule-T .samples i) J (joinPar-joined new B T) n (low-of T rank (st .base-aged) NT ndT S1 K rule-T Ages a u h))
 
     -- one that was dropped would have been dropped
     pub step-low-gone : (u : ℕ) → rank u ≤ Ages → new u ≡ false → low NT T (reached T S1) K Ages u ≡ none → lowNow u ≡ none

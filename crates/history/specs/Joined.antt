@@ -45,7 +45,11 @@ module _ (R : Record) (B : Batch) where
     unfolding join
     edges-closed = all-sort (keyed (R .nodes ++ B .nodes)) (R .edges ++ B .edges) (all-app
         (all-to (λ e p. (mem-left (e .parent) NR NB (p .0), mem-left (e .child) NR NB (p .1))) (c .edges-in))
-        (all-to (λ e p. (⊎-elim (λ (i : mem (e .parent) NB ≡ true). mem-right (e .parent) NR NB i) (λ (i : mem (e .parent) NR ≡ true). mem-left (e .parent) NR NB i) (p .0), mem-right (e .child) NR NB (p .1))) (j .rows-in)))
+        (all-to (λ e p. (
+          ⊎-elim (λ (i : mem (e .parent) NB ≡ true). mem-right (e .parent) NR NB i) (λ (i : mem (e .parent) NR ≡ true). mem-left (e .parent) NR NB i)
+              (p .0),
+          mem-right (e .child) NR NB (p .1),
+        )) (j .rows-in)))
 
     muts-closed : All (λ (m : Mutation). mem (m .node) (NR ++ NB) ≡ true) (join R B .muts)
     unfolding join

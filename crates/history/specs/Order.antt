@@ -118,7 +118,8 @@ module _ (lt : ℕ → ℕ → Bool) (o : Order lt) where
 
       go : (t : Bool) → lt a c ≡ t → (mem a l ≡ false → Sorted lt (insert lt a l)) → Sorted lt (insert lt a (c ∷ l))
       go true e ih = rw (e, insert) (least (λ b m. ⊎-elim (λ (q : b ≡ c). rw q e) (λ (k : mem b l ≡ true). o .trans a c b e (f b k)) (mem-cases b c l m)) (least f s))
-      go false e ih = rw (e, insert) (least (λ b m. ⊎-elim (λ (q : b ≡ a). rw q (o .total a c apart e)) (λ (k : mem b l ≡ true). f b k) (mem-cases b a l (sym (mem-insert lt b a l) ∙ m))) (ih tail-free))
+      go false e ih = rw (e, insert)
+          (least (λ b m. ⊎-elim (λ (q : b ≡ a). rw q (o .total a c apart e)) (λ (k : mem b l ≡ true). f b k) (mem-cases b a l (sym (mem-insert lt b a l) ∙ m))) (ih tail-free))
 
   pub sort-sorted : (l : List ℕ) → Distinct l → Sorted lt (sort lt l)
   unfolding sort
@@ -133,7 +134,8 @@ module _ (lt : ℕ → ℕ → Bool) (o : Order lt) where
   sorted-unique (a ∷ l) (b ∷ m) (least f s) (least g t) h = ap₂ _∷_ heads (sorted-unique l m s t tails)
     where
       heads : a ≡ b
-      heads = ⊎-elim (λ q. q) (λ (k : mem a m ≡ true). ⊎-elim (λ q. sym q) (λ (i : mem b l ≡ true). absurd (clash (o .trans a b a (f b i) (g a k)) (o .irrefl a))) (mem-cases b a l (h b ∙ mem-here b b m refl))) (mem-cases a b m (sym (h a) ∙ mem-here a a l refl))
+      heads = ⊎-elim (λ q. q) (λ (k : mem a m ≡ true). ⊎-elim (λ q. sym q) (λ (i : mem b l ≡ true). absurd (clash (o .trans a b a (f b i) (g a k)) (o .irrefl a)))
+          (mem-cases b a l (h b ∙ mem-here b b m refl))) (mem-cases a b m (sym (h a) ∙ mem-here a a l refl))
 
       tails : (c : ℕ) → mem c l ≡ mem c m
       tails c = bool-ext

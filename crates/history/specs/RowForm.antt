@@ -28,7 +28,8 @@ nodeColumns l = record { time = map (λ (n : Node). n .time) l; birth = births l
 nodes-back : (l : List Node) → nodesOf (nodeColumns l) ≡ l
 unfolding nodesOf births rows
 nodes-back [] = refl
-nodes-back (n ∷ l) = rows-cons (λ i. record { time = at (nodeColumns (n ∷ l) .time) i; birth = at (nodeColumns (n ∷ l) .birth) i }) (length (map (λ (n : Node). n .time) l)) ∙ ap (λ r. n ∷ r) (nodes-back l)
+nodes-back (n ∷ l) = rows-cons (λ i. record { time = at (nodeColumns (n ∷ l) .time) i; birth = at (nodeColumns (n ∷ l) .birth) i }) (length (map (λ (n : Node). n .time) l))
+    ∙ ap (λ r. n ∷ r) (nodes-back l)
 
 abbrev siteColumns : List Site → SiteColumns
 siteColumns l = record { position = map (λ (s : Site). s .pos) l; ancestral = map (λ (s : Site). s .state) l }
@@ -36,7 +37,8 @@ siteColumns l = record { position = map (λ (s : Site). s .pos) l; ancestral = m
 sites-back : (l : List Site) → sitesOf (siteColumns l) ≡ l
 unfolding sitesOf rows
 sites-back [] = refl
-sites-back (s ∷ l) = rows-cons (λ i. record { pos = at (siteColumns (s ∷ l) .position) i; state = at (siteColumns (s ∷ l) .ancestral) i }) (length (map (λ (s : Site). s .pos) l)) ∙ ap (λ r. s ∷ r) (sites-back l)
+sites-back (s ∷ l) = rows-cons (λ i. record { pos = at (siteColumns (s ∷ l) .position) i; state = at (siteColumns (s ∷ l) .ancestral) i })
+    (length (map (λ (s : Site). s .pos) l)) ∙ ap (λ r. s ∷ r) (sites-back l)
 
 module _ (N : List ℕ) where
   abbrev row : ℕ → ℕ

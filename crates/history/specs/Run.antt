@@ -100,7 +100,8 @@ module _ (rule : Rules) where
 
       -- an old fish of Q that is named is in E
       E-of : (b : ℕ) → (mem b (parents (B .edges)) ≡ true) ⊎ (mem b F ≡ true) → mem b (births (Q .nodes)) ≡ true → In E b
-      E-of b p m = of-filter named b (births (Q .nodes)) m (⊎-elim (λ (i : mem b (parents (B .edges)) ≡ true). or-left (mem b F) i) (λ (i : mem b F ≡ true). or-right (mem b (parents (B .edges))) (mem b F) i) p)
+      E-of b p m = of-filter named b (births (Q .nodes)) m
+          (⊎-elim (λ (i : mem b (parents (B .edges)) ≡ true). or-left (mem b F) i) (λ (i : mem b F ≡ true). or-right (mem b (parents (B .edges))) (mem b F) i) p)
 
       E-parent : (q : ℕ) → mem q (parents (B .edges)) ≡ true → (mem q NB ≡ true) ⊎ In E q
       E-parent q p = ⊎-elim (λ n. inl n) (λ (m : mem q (births (Q .nodes)) ≡ true). inr (E-of q (inl p) m)) (jQ .known q p)

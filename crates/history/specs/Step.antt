@@ -216,7 +216,8 @@ module _ (rule : Rules) (pr : Profile rule) (R : Record) (B : Batch) (S S2 : Lis
   unfolding lowAt standsAt
   same-low-old x u a l n h =
       lowY x a l
-      ∙ step-low-old rule pr new (T x) (U x) rank S S2 (setting x) NR (ndT x) (births (X .nodes)) (births (Y .nodes)) (ndX x) (ndY x l) u a (omega (arith, rank-young u)) (omega (arith, rank-young a)) n h
+      ∙ step-low-old rule pr new (T x) (U x) rank S S2 (setting x) NR (ndT x) (births (X .nodes)) (births (Y .nodes)) (ndX x) (ndY x l) u a (omega (arith, rank-young u))
+      (omega (arith, rank-young a)) n h
       ∙ sym (lowX x u)
 
   same-low-gone : (x u : ℕ) → x < R .len → new u ≡ false → lowAt rule R S x u ≡ none → lowAt rule X S2 x u ≡ none
@@ -231,8 +232,11 @@ module _ (rule : Rules) (pr : Profile rule) (R : Record) (B : Batch) (S S2 : Lis
   row-same : (b : ℕ) → mem b (rows ++ NB) ≡ true → nodeOf (Y .nodes) b ≡ nodeOf (X .nodes) b
   unfolding join
   row-same b m = ⊎-elim
-      (λ (i : mem b rows ≡ true). node-left (C .nodes) (B .nodes) b (ap (mem b) (clean-births rule pr R S (ft .cleaned)) ∙ i) ∙ clean-row rule pr R S (ft .cleaned) b i ∙ sym (node-left (R .nodes) (B .nodes) b (rows-old b i)))
-      (λ (i : mem b NB ≡ true). node-right (C .nodes) (B .nodes) b (ap (mem b) (clean-births rule pr R S (ft .cleaned)) ∙ not-true (mem b rows) (λ j. ft .joined .fresh b i (rows-old b j))) ∙ sym (node-right (R .nodes) (B .nodes) b (not-true (mem b NR) (ft .joined .fresh b i))))
+      (λ (i : mem b rows ≡ true). node-left (C .nodes) (B .nodes) b (ap (mem b) (clean-births rule pr R S (ft .cleaned)) ∙ i) ∙ clean-row rule pr R S (ft .cleaned) b i ∙ sym
+      (node-left (R .nodes) (B .nodes) b (rows-old b i)))
+      (λ (i : mem b NB ≡ true). node-right (C .nodes) (B .nodes) b
+      (ap (mem b) (clean-births rule pr R S (ft .cleaned)) ∙ not-true (mem b rows) (λ j. ft .joined .fresh b i (rows-old b j))) ∙ sym
+      (node-right (R .nodes) (B .nodes) b (not-true (mem b NR) (ft .joined .fresh b i))))
       (mem-split b rows NB m)
 
   -- what stands somewhere in the join of the whole record was kept, or is new
@@ -244,10 +248,16 @@ module _ (rule : Rules) (pr : Profile rule) (R : Record) (B : Batch) (S S2 : Lis
       (truth (new b))
     where
       k : or (new b) (K x b) ≡ true
-      k = step-sub rule pr new (T x) (U x) rank S S2 (setting x) NR (ndT x) (births (X .nodes)) (births (Y .nodes)) (ndX x) (ndY x l) b (ap (λ (F : Par). rule (births (X .nodes)) F S2 b) (sym (X-parent x)) ∙ h)
+      k = step-sub rule pr new (T x) (U x) rank S S2 (setting x) NR (ndT x) (births (X .nodes)) (births (Y .nodes)) (ndX x) (ndY x l) b
+          (ap (λ (F : Par). rule (births (X .nodes)) F S2 b) (sym (X-parent x)) ∙ h)
 
   in-both : (b : ℕ) → mem b (rows ++ NB) ≡ true → (mem b (births (Y .nodes)) ≡ true) × (mem b (births (X .nodes)) ≡ true) × (nodeOf (Y .nodes) b ≡ nodeOf (X .nodes) b)
-  in-both b m = (ap (mem b) Y-births ∙ m, ap (mem b) X-births ∙ ⊎-elim (λ (i : mem b rows ≡ true). mem-left b NR NB (rows-old b i)) (λ (i : mem b NB ≡ true). mem-right b NR NB i) (mem-split b rows NB m), row-same b m)
+  in-both b m = (
+    ap (mem b) Y-births ∙ m,
+    ap (mem b) X-births ∙ ⊎-elim (λ (i : mem b rows ≡ true). mem-left b NR NB (rows-old b i))
+        (λ (i : mem b NB ≡ true). mem-right b NR NB i) (mem-split b rows NB m),
+    row-same b m,
+  )
 
   -- ---- mutations
 
@@ -261,7 +271,8 @@ module _ (rule : Rules) (pr : Profile rule) (R : Record) (B : Batch) (S S2 : Lis
     goes = λ e. same-low-gone (pos (m .site)) (m .node) (p .1) (old-not-new (m .node) (p .0)) e;
   }) (base-muts l a)
 
-  batch-muts : (l : List Mutation) → All (λ (m : Mutation). (mem (m .node) NB ≡ true) × (pos (m .site) < R .len)) l → All (λ (m : Mutation). lowAt rule Y S2 (pos (m .site)) (m .node) ≡ lowAt rule X S2 (pos (m .site)) (m .node)) l
+  batch-muts : (l : List Mutation) → All (λ (m : Mutation). (mem (m .node) NB ≡ true) × (pos (m .site) < R .len)) l →
+      All (λ (m : Mutation). lowAt rule Y S2 (pos (m .site)) (m .node) ≡ lowAt rule X S2 (pos (m .site)) (m .node)) l
   batch-muts [] done = done
   batch-muts (m ∷ l) (also p a) = also (same-low-new (pos (m .site)) (m .node) (p .1) (p .0)) (batch-muts l a)
 
