@@ -16,7 +16,8 @@ use Rattle.forest.specs.Profile.{Profile, stands-profile, line, line-profile}
 use Rattle.history.specs.Lists.{filter-of, of-filter, filter-distinct}
 use Rattle.history.specs.Cleaned.{clean-births, kept-in}
 use Rattle.history.specs.Joined.{join-births}
-use Rattle.history.specs.Step.{Fits, one-step}
+use Rattle.history.specs.Fits.{Fits}
+use Rattle.history.specs.Step.{one-step}
 use Rattle.history.specs.Tidy.{tidy-law}
 
 -- a batch is joined, or the record is cleaned for a list of samples

@@ -27,20 +27,7 @@ use Rattle.history.specs.Kept.{kept-distinct, sample-kept}
 use Rattle.history.specs.Same.{Same, same-clean}
 use Rattle.history.specs.Cleaned.{good-edge, good-nodes, rule-at, stands-kept, kept-in, clean-births, clean-row, drawn-ends, clean-parent, clean-edge}
 use Rattle.history.specs.Joined.{base-time, join-young, join-births, join-once}
-
--- neither call is refused, and S lists every fish of the record that the batch or S2 name: demand 3's premise
-pub record Fits (R : Record) (B : Batch) (S S2 : List ℕ) : Type 0 where
-  pub cleaned : CleanOk R S
-  pub joined : JoinOk R B
-  pub named : (q : ℕ) → mem q (parents (B .edges)) ≡ true → (mem q (births (B .nodes)) ≡ true) ⊎ In S q
-  pub from : (s : ℕ) → In S2 s → (mem s (births (B .nodes)) ≡ true) ⊎ In S s
-  pub distinct : Distinct S2
-
--- a parent that an edge of the batch gives is one that the batch names
-pub parents-have : (x v q : ℕ) (l : List Edge) → Any (Cov x v q) l → mem q (parents l) ≡ true
-unfolding parents
-parents-have x v q (e ∷ l) (now c) = mem-here q (e .parent) (parents l) (sym (c .to-parent))
-parents-have x v q (e ∷ l) (later a) = mem-there q (e .parent) (parents l) (parents-have x v q l a)
+use Rattle.history.specs.Fits.{Fits, parents-have}
 
 module _ (rule : Rules) (pr : Profile rule) (R : Record) (B : Batch) (S S2 : List ℕ) (ft : Fits R B S S2) where
   abbrev NR : List ℕ

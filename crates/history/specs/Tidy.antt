@@ -19,7 +19,8 @@ use Rattle.history.specs.JoinEdges.{join-parent}
 use Rattle.history.specs.Moved.{moved-twice}
 use Rattle.history.specs.Same.{record-eq}
 use Rattle.history.specs.Cleaned.{clean-good}
-use Rattle.history.specs.Step.{Fits, one-step, base-muts}
+use Rattle.history.specs.Fits.{Fits}
+use Rattle.history.specs.Step.{one-step, base-muts}
 
 -- ---- cleaning goes by the nodes and the forest, not by the rows of edges
 
