@@ -1,19 +1,18 @@
 -- The one-step law at a position: cleaning for S1 before a batch changes nothing that a cleaning for S2 after it sees.
-use mathlib.Core.Path.{_≡_, refl, sym, ap, _∙_}
+use mathlib.Core.Path.{_≡_, refl, ap, _∙_}
 use mathlib.Core.Bool.{Bool, true, false}
 use mathlib.Core.List.{List}
 use mathlib.Core.Option.{Option, none, some}
-use mathlib.Core.Logic.{_⊎_, inl, inr, ⊎-elim}
-use Prim.Native.Nat.{ℕ, _<_, _≤_}
-use native.Mathlib.Omega.{arith}
+use mathlib.Core.Logic.{⊎-elim}
+use Prim.Native.Nat.{ℕ, _≤_}
 use Rattle.meaning.specs.Words.{or}
 use Rattle.meaning.specs.Forest.{Par, Ages, Rules, reached, low, drawn}
-use Rattle.laws.specs.Bools.{truth, none-some, or-left, or-right}
+use Rattle.laws.specs.Bools.{none-some, or-left, or-right}
 use Rattle.laws.specs.Facts.{In}
 use Rattle.forest.specs.Lines.{here}
 use Rattle.forest.specs.Contract.{Low, Contract}
 use Rattle.forest.specs.Joining.{contract-join, low-join, reached-old}
-use Rattle.forest.specs.TreeLaws.{Aged, Nodes, drawn-contract}
+use Rattle.forest.specs.TreeLaws.{Nodes, drawn-contract}
 use Rattle.forest.specs.Lowest.{Rule, low-of, of-low}
 use Rattle.forest.specs.Redrawn.{contract-aged, low-reached, redrawn, redrawn-low}
 use Rattle.forest.specs.Profile.{joinPar, joinPar-joined, Setting, Profile}

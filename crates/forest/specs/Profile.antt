@@ -1,11 +1,10 @@
 -- A rule of what stands, and all that is asked of it; 01's rule and the rule that every reached node stands.
-use mathlib.Core.Path.{_≡_, refl, sym, ap, _∙_, fun-ext}
+use mathlib.Core.Path.{_≡_, fun-ext}
 use mathlib.Core.Bool.{Bool, true, false}
 use mathlib.Core.List.{List}
-use mathlib.Core.Option.{Option, none, some}
-use mathlib.Core.Logic.{_⊎_, inl, inr, ⊎-elim}
+use mathlib.Core.Logic.{_⊎_}
 use Prim.Native.Nat.{ℕ}
-use Rattle.meaning.specs.Words.{or, mem}
+use Rattle.meaning.specs.Words.{or}
 use Rattle.meaning.specs.Forest.{Par, Rules, reached, stands}
 use Rattle.laws.specs.Bools.{bool-ext}
 use Rattle.laws.specs.Facts.{In}

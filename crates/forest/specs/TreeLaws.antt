@@ -1,14 +1,14 @@
 -- The functions that compute reached, stands, up and the cleaned forest say what the relations say.
 use mathlib.Core.Path.{_≡_, refl, sym, ap, _∙_}
 use mathlib.Core.Bool.{Bool, true, false}
-use mathlib.Core.List.{List, [], _∷_}
+use mathlib.Core.List.{List}
 use mathlib.Core.Option.{Option, none, some}
 use mathlib.Core.Logic.{_⊎_, inl, inr, ⊎-elim}
 use Prim.Native.Nat.{ℕ, zero, suc, _+_, _<_, _≤_}
 use native.Mathlib.Omega.{arith}
 use lib.Dec.{eqb, leb}
 use borrow.Author.Tests.{eqb-true, eq-eqb, le-leb, leb-true}
-use Rattle.meaning.specs.Words.{or, mem, any, count}
+use Rattle.meaning.specs.Words.{or, mem, count}
 use Rattle.meaning.specs.Forest.{Par, Ages, is, above, reached, feeds, stands, near, up, drawn}
 use Rattle.laws.specs.Bools.{clash, truth}
 use Rattle.laws.specs.Facts.{In, Distinct}

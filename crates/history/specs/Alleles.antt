@@ -1,10 +1,10 @@
 -- 01, "Allele": cleaning changes no sample's allele.
 use mathlib.Core.Path.{_≡_, refl, sym, ap, _∙_}
 use mathlib.Core.Bool.{Bool, true, false}
-use mathlib.Core.List.{List, [], _∷_}
+use mathlib.Core.List.{List}
 use mathlib.Core.Option.{Option, none, some}
 use mathlib.Core.Logic.{_⊎_, inl, inr, ⊎-elim}
-use Prim.Native.Nat.{ℕ, zero, suc, _+_, _<_, _≤_}
+use Prim.Native.Nat.{ℕ, _<_}
 use native.Mathlib.Omega.{arith}
 use lib.Dec.{ltb}
 use lib.ListN.{length, getD}
@@ -15,11 +15,11 @@ use Rattle.meaning.specs.Forest.{Par, Ages, Rules, parentIn, ancestor, near, dr
 use Rattle.meaning.specs.Clean.{moved, standsAt, lowAt, clean}
 use Rattle.meaning.specs.Allele.{carries, lastState, alleleAt}
 use Rattle.laws.specs.Bools.{clash, truth, eq?, not-true, none-some}
-use Rattle.laws.specs.Facts.{In, All, done, also, Good, CleanOk}
+use Rattle.laws.specs.Facts.{In, CleanOk}
 use Rattle.forest.specs.Lines.{Above, trans}
 use Rattle.forest.specs.Contract.{Near, Low, near-in, near-above}
 use Rattle.forest.specs.TreeLaws.{Aged, near-of, of-near}
-use Rattle.forest.specs.Lowest.{Rule, low-of, of-low}
+use Rattle.forest.specs.Lowest.{low-of, of-low}
 use Rattle.forest.specs.Redrawn.{contract-aged}
 use Rattle.forest.specs.Profile.{Profile}
 use Rattle.forest.specs.Carriers.{near-least, near-low, near-came, of-ancestor, low-order}

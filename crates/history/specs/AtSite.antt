@@ -1,17 +1,17 @@
 -- Mutations at one site: which fish carry one, before and after mutations move, and the state of the last row.
 use mathlib.Core.Path.{_≡_, refl, sym, ap, _∙_}
-use mathlib.Core.Bool.{Bool, true, false}
-use mathlib.Core.List.{List, [], _∷_, _++_}
+use mathlib.Core.Bool.{true, false}
+use mathlib.Core.List.{List, [], _∷_}
 use mathlib.Core.Option.{Option, none, some}
-use mathlib.Core.Logic.{_⊎_, inl, inr, ⊎-elim}
+use mathlib.Core.Logic.{_⊎_, ⊎-elim}
 use Prim.Native.Nat.{ℕ}
 use lib.Dec.{eqb}
-use borrow.Author.Tests.{eqb-true, eqb-false, eq-eqb}
-use Rattle.meaning.specs.Words.{and, any}
+use borrow.Author.Tests.{eqb-true, eq-eqb}
+use Rattle.meaning.specs.Words.{any}
 use Rattle.meaning.specs.Rows.{Mutation}
 use Rattle.meaning.specs.Clean.{moved}
 use Rattle.meaning.specs.Allele.{sits, lastState, carries}
-use Rattle.laws.specs.Bools.{clash, truth, and-of, not-true, some-inj, none-some}
+use Rattle.laws.specs.Bools.{clash, truth, and-of, not-true}
 use Rattle.laws.specs.Facts.{All, done, also}
 use Rattle.history.specs.Lists.{all-both}
 use Rattle.history.specs.Pairs.{put, Pairs, with-all}

@@ -6,9 +6,9 @@ use mathlib.Core.Option.{Option, none, some}
 use mathlib.Core.Logic.{_⊎_, inl, inr, ⊎-elim}
 use Prim.Native.Nat.{ℕ, zero, suc, _+_, _<_, _≤_}
 use native.Mathlib.Omega.{arith}
-use lib.Dec.{eqb, leb, ltb}
+use lib.Dec.{ltb}
 use borrow.Author.Tests.{eqb-true, eq-eqb, lt-ltb, le-leb, ltb-true, leb-true}
-use Rattle.meaning.specs.Words.{and, mem, each, sort}
+use Rattle.meaning.specs.Words.{mem, each, sort}
 use Rattle.meaning.specs.Rows.{Edge}
 use Rattle.meaning.specs.Forest.{Par, holds, parentIn, is}
 use Rattle.meaning.specs.Clean.{shut, opened, runs, before, edgesFor}

@@ -3,15 +3,15 @@ use mathlib.Core.Path.{_≡_, refl, sym, ap, ap₂, _∙_}
 use mathlib.Core.Bool.{Bool, true, false}
 use mathlib.Core.List.{List, [], _∷_}
 use mathlib.Core.Option.{Option, none, some}
-use mathlib.Core.Logic.{_⊎_, inl, inr, ⊎-elim}
-use Prim.Native.Nat.{ℕ, _<_, _≤_}
+use mathlib.Core.Logic.{⊎-elim}
+use Prim.Native.Nat.{ℕ, _<_}
 use native.Mathlib.Omega.{arith}
 use Rattle.meaning.specs.Words.{mem, filter}
 use Rattle.meaning.specs.Rows.{Site, Mutation, Tables, Record, births, nodeOf, timeOf, posOf, recordOf, tablesOf}
 use Rattle.meaning.specs.Forest.{Par, Ages, Rules, parentIn, reached, low, drawn}
 use Rattle.meaning.specs.Clean.{moved, standsAt, forestAt, lowAt, kept, clean, cleaned}
 use Rattle.laws.specs.Bools.{clash, truth}
-use Rattle.laws.specs.Facts.{In, All, CleanOk}
+use Rattle.laws.specs.Facts.{In, CleanOk}
 use Rattle.forest.specs.Lines.{Above, here}
 use Rattle.forest.specs.TreeLaws.{reached-of, of-reached}
 use Rattle.forest.specs.Lowest.{low-of}
@@ -21,7 +21,7 @@ use Rattle.forest.specs.Guest.{guest-stands, guest-forest, guest-low}
 use Rattle.forest.specs.Mrca.{Mrca, mrca-stands, mrca-kept, mrca-none}
 use Rattle.history.specs.Lists.{all-filter, all-to}
 use Rattle.history.specs.Moved.{moved-same}
-use Rattle.history.specs.Same.{Same, same-clean}
+use Rattle.history.specs.Same.{same-clean}
 use Rattle.history.specs.Cleaned.{good-aged, good-nodes, rule-at, drawn-at, reached-old, stands-kept, clean-parent}
 
 unfoldable pub reachedAt : Record → List ℕ → ℕ → ℕ → Bool

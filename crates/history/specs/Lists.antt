@@ -1,11 +1,11 @@
 -- Lists: some or every member of a list made by joining, by each, by sorting or by filtering.
-use mathlib.Core.Path.{_≡_, refl, sym, ap, _∙_}
+use mathlib.Core.Path.{_≡_, refl, ap}
 use mathlib.Core.Bool.{Bool, true, false}
 use mathlib.Core.List.{List, [], _∷_, _++_, map}
 use mathlib.Core.Logic.{_⊎_, inl, inr, ⊎-elim}
 use Prim.Native.Nat.{ℕ}
 use Rattle.meaning.specs.Words.{mem, each, insert, sort, filter}
-use Rattle.laws.specs.Bools.{clash, truth, not-true}
+use Rattle.laws.specs.Bools.{clash, truth}
 use Rattle.laws.specs.Members.{mem-nil, mem-here, mem-there, mem-cases, mem-split}
 use Rattle.laws.specs.Facts.{Distinct, nil, cons, Any, now, later, All, done, also}
 

@@ -1,11 +1,11 @@
 -- Row numbers and birth numbers: the columns of a record mean that record.
 use mathlib.Core.Path.{_≡_, refl, sym, ap, _∙_}
-use mathlib.Core.Bool.{Bool, true}
+use mathlib.Core.Bool.{true}
 use mathlib.Core.List.{List, [], _∷_, map}
 use Prim.Native.Nat.{ℕ, zero, suc}
 use lib.ListN.{length}
 use Rattle.meaning.specs.Words.{at, mem, rows, rowsFrom, indexOf}
-use Rattle.meaning.specs.Rows.{NodeColumns, EdgeColumns, SiteColumns, MutationColumns, Tables, Node, Edge, Site, Mutation, Record, births, nodesOf, edgesOf, sitesOf, mutsOf, recordOf, tablesOf}
+use Rattle.meaning.specs.Rows.{NodeColumns, EdgeColumns, SiteColumns, MutationColumns, Node, Edge, Site, Mutation, Record, births, nodesOf, edgesOf, sitesOf, mutsOf, recordOf, tablesOf}
 use Rattle.laws.specs.Members.{index-at}
 use Rattle.laws.specs.Facts.{All, done, also, Closed}
 

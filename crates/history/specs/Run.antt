@@ -1,13 +1,13 @@
 -- Demand 3 for records: cleanings in between do not change the last cleaned record, for any run of batches and cleanings.
 use mathlib.Core.Path.{_≡_, refl, sym, ap, _∙_}
-use mathlib.Core.Bool.{Bool, true, false}
-use mathlib.Core.List.{List, [], _∷_, _++_}
+use mathlib.Core.Bool.{Bool, true}
+use mathlib.Core.List.{List, [], _∷_}
 use mathlib.Core.Logic.{_⊎_, inl, inr, ⊎-elim}
 use Prim.Native.Nat.{ℕ}
 use Rattle.meaning.specs.Words.{or, mem, filter}
 use Rattle.meaning.specs.Rows.{Record, births}
 use Rattle.meaning.specs.Forest.{Rules, stands}
-use Rattle.meaning.specs.Clean.{kept, clean}
+use Rattle.meaning.specs.Clean.{clean}
 use Rattle.meaning.specs.Join.{Batch, join}
 use Rattle.laws.specs.Bools.{or-of, or-left, or-right}
 use Rattle.laws.specs.Members.{mem-split}

@@ -4,28 +4,28 @@ use mathlib.Core.Bool.{Bool, true, false}
 use mathlib.Core.List.{List, [], _∷_, _++_}
 use mathlib.Core.Option.{Option, none, some}
 use mathlib.Core.Logic.{_⊎_, inl, inr, ⊎-elim}
-use Prim.Native.Nat.{ℕ, _<_, _≤_}
+use Prim.Native.Nat.{ℕ, _<_}
 use native.Mathlib.Omega.{arith}
 use lib.ListN.{length}
 use Rattle.meaning.specs.Words.{or, mem}
-use Rattle.meaning.specs.Rows.{Edge, Mutation, Record, births, nodeOf, timeOf, posOf}
+use Rattle.meaning.specs.Rows.{Mutation, Record, births, nodeOf, timeOf, posOf}
 use Rattle.meaning.specs.Forest.{Par, Ages, Rules, parentIn, reached, low, drawn}
 use Rattle.meaning.specs.Clean.{moved, standsAt, forestAt, lowAt, kept, clean}
 use Rattle.meaning.specs.Join.{Batch, keyed, bySite, join}
 use Rattle.laws.specs.Bools.{truth, not-true, some-inj}
-use Rattle.laws.specs.Members.{mem-here, mem-there, mem-left, mem-right, mem-split}
-use Rattle.laws.specs.Facts.{In, Distinct, Any, now, later, All, done, also, Cov, parents, JoinOk, CleanOk}
+use Rattle.laws.specs.Members.{mem-left, mem-right, mem-split}
+use Rattle.laws.specs.Facts.{In, Distinct, Any, All, done, also, Cov}
 use Rattle.forest.specs.TreeLaws.{Nodes}
 use Rattle.forest.specs.Profile.{Profile, Setting, joinPar}
 use Rattle.forest.specs.Position.{step-sub, step-stands, step-drawn, step-low-new, step-low-old, step-low-gone}
 use Rattle.history.specs.Lists.{distinct-join}
-use Rattle.history.specs.Nodes.{births-join, node-left, node-right}
-use Rattle.history.specs.Encode.{parent-of, of-parent}
+use Rattle.history.specs.Nodes.{node-left, node-right}
+use Rattle.history.specs.Encode.{parent-of}
 use Rattle.history.specs.Moved.{moved-by, moved-same, moved-twice, Twice}
 use Rattle.history.specs.JoinEdges.{Side, join-parent}
 use Rattle.history.specs.Kept.{kept-distinct, sample-kept}
-use Rattle.history.specs.Same.{Same, same-clean}
-use Rattle.history.specs.Cleaned.{good-edge, good-nodes, rule-at, stands-kept, kept-in, clean-births, clean-row, drawn-ends, clean-parent, clean-edge}
+use Rattle.history.specs.Same.{same-clean}
+use Rattle.history.specs.Cleaned.{good-edge, good-nodes, stands-kept, kept-in, clean-births, clean-row, drawn-ends, clean-parent, clean-edge}
 use Rattle.history.specs.Joined.{base-time, join-young, join-births, join-once}
 use Rattle.history.specs.Fits.{Fits, parents-have}
 

@@ -2,8 +2,8 @@
 use mathlib.Core.Path.{_≡_, refl, sym, ap, _∙_}
 use mathlib.Core.Bool.{Bool, true, false}
 use mathlib.Core.List.{List, [], _∷_, _++_}
-use mathlib.Core.Logic.{_⊎_, inl, inr, ⊎-elim}
-use Prim.Native.Nat.{ℕ, _<_, _≤_}
+use mathlib.Core.Logic.{inl, inr, ⊎-elim}
+use Prim.Native.Nat.{ℕ, _<_}
 use native.Mathlib.Omega.{arith}
 use lib.Dec.{eqb}
 use Rattle.meaning.specs.Words.{mem}
@@ -12,7 +12,7 @@ use Rattle.meaning.specs.Forest.{Ages, stands}
 use Rattle.meaning.specs.Clean.{clean}
 use Rattle.meaning.specs.Join.{Batch, join}
 use Rattle.laws.specs.Bools.{clash}
-use Rattle.laws.specs.Members.{mem-nil, mem-here, mem-there, mem-cases, mem-left, mem-right}
+use Rattle.laws.specs.Members.{mem-nil, mem-here, mem-cases, mem-left, mem-right}
 use Rattle.laws.specs.Facts.{In, Distinct, nil, cons, Any, now, later, All, done, also, Cov, parents, Good, JoinOk, CleanOk}
 use Rattle.forest.specs.Profile.{stands-profile}
 use Rattle.history.specs.Cleaned.{clean-good}
