@@ -109,6 +109,6 @@ module _ (new : ℕ → Bool) (S : Set) (T B : Par) (bt : Grafted new S T B) (K 
           old n = ⊎-elim (λ m. fresh-child n m e) (λ m. ⊎-elim (λ k. fresh-child n k f)
               (λ k. kept-K (st u (two ne (sym (jn .old m) ∙ e) (sym (jn .old k) ∙ f) (reached-old m r) (reached-old k s)))) (truth (new d))) (truth (new c))
 
-      -- the same for the rule of M-110
+      -- the same for the rule that every reached node stands
       pub kept-reached : ((v : ℕ) → Reached T S v → K v ≡ true) → (u : ℕ) → Reached J S2 u → Kept u ≡ true
       kept-reached st u r = ⊎-elim kept-new (λ n. kept-K (st u (reached-old n r))) (truth (new u))

@@ -96,7 +96,3 @@ module _ {P : Par} (rank : ℕ → ℕ) (ok : Ranked P rank) where
   -- two children of one node above one node are the same
   pub same-child : {c d u s : ℕ} → P c ≡ some u → P d ≡ some u → Above P c s → Above P d s → c ≡ d
   same-child e f x y = antisym (squeeze e x y (ok .grows f)) (squeeze f y x (ok .grows e))
-
-  pub proper : {a b : ℕ} → Above P a b → (a ≡ b → ⊥) → rank b < rank a
-  proper here n = absurd (n refl)
-  proper (step e x) n = omega (arith, rank-le x, ok .grows e)

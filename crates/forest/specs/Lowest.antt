@@ -15,7 +15,7 @@ use Rattle.forest.specs.Contract.{Set, Reached, Stands, sample, two, Low
 use Rattle.forest.specs.Passing.{first-some, first-of}
 use Rattle.forest.specs.TreeLaws.{Aged, Nodes, reached-of, of-reached, feeds-of, of-feeds, stands-of, of-stands}
 
--- what 01's rule and M-110's share: samples stand, what stands is reached, and so does a fork
+-- what every rule of what stands shares: samples stand, what stands is reached, and so does a fork
 pub record Rule (P : Par) (S : Set) (K : ℕ → Bool) : Type 0 where
   pub samples : {s : ℕ} → S s → K s ≡ true
   pub only : {v : ℕ} → K v ≡ true → Reached P S v

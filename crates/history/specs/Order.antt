@@ -1,4 +1,4 @@
--- Order: what "compared in that order" makes of lists of numbers, nodes by (time, birth), and sorted lists known by their members.
+-- Order: "compared in that order" for lists of numbers, edges by edge key, nodes by (time, birth), and sorted lists known by their members.
 use mathlib.Core.Path.{_≡_, refl, sym, ap, ap₂, _∙_}
 use mathlib.Core.Bool.{Bool, true, false}
 use mathlib.Core.List.{List, [], _∷_}
@@ -9,7 +9,9 @@ use lib.Dec.{eqb, ltb}
 use lib.ListN.{length}
 use borrow.Author.Tests.{eqb-true, eqb-false, eq-eqb, lt-ltb, le-ltb, ltb-true, ltb-false}
 use Rattle.meaning.specs.Words.{at, mem, lex, insert, sort}
+use Rattle.meaning.specs.Rows.{Node, Edge, timeOf, edgeKey}
 use Rattle.meaning.specs.Clean.{before}
+use Rattle.meaning.specs.Join.{keyed}
 use Rattle.laws.specs.Bools.{clash, truth, eq?, bool-ext, not-true}
 use Rattle.laws.specs.Members.{mem-nil, mem-here, mem-there, mem-cases}
 use Rattle.laws.specs.Facts.{Distinct, nil, cons}
@@ -69,6 +71,22 @@ lex-apart (a ∷ l) (b ∷ m) q n h = go (ltb b a) refl (eqb a b) refl (λ x y. 
         let s : a ≡ b = eqb-true a b r in
         of-less (b ∷ m) (a ∷ l) (tied (sym s) (less-of m l (ih (λ (x : l ≡ m). n (ap₂ _∷_ s x)) (not-true (lex l m) (λ k. clash (of-less (a ∷ l) (b ∷ m) (tied s (less-of l m k))) h)))))
     go false p false r ih = absurd (eqb-false a b r (omega (arith, ltb-false b a p, ltb-false a b not-sooner)))
+
+-- ---- edges by edge key
+
+module _ (N : List Node) where
+  pub keyed-irrefl : (e : Edge) → keyed N e e ≡ false
+  unfolding keyed
+  keyed-irrefl e = lex-irrefl (edgeKey (timeOf N) e)
+
+  pub keyed-trans : (c d e : Edge) → keyed N c d ≡ true → keyed N d e ≡ true → keyed N c e ≡ true
+  unfolding keyed
+  keyed-trans c d e g h = lex-trans (edgeKey (timeOf N) c) (edgeKey (timeOf N) d) (edgeKey (timeOf N) e) g h
+
+  -- edges with different keys are one below the other
+  pub keyed-apart : (d e : Edge) → (edgeKey (timeOf N) d ≡ edgeKey (timeOf N) e → ⊥) → keyed N d e ≡ false → keyed N e d ≡ true
+  unfolding keyed edgeKey
+  keyed-apart d e n h = lex-apart (edgeKey (timeOf N) d) (edgeKey (timeOf N) e) refl n h
 
 -- ---- sorted lists of numbers
 
