@@ -1,9 +1,9 @@
 -- The nearest carrier of a mark at or above a node, when marks go down to the nearest standing node.
-use mathlib.Core.Path.{_≡_, refl, sym, _∙_}
+use mathlib.Core.Path.{_≡_, refl}
 use mathlib.Core.Bool.{Bool, true, false}
 use mathlib.Core.Option.{Option, none, some}
 use mathlib.Core.Logic.{_⊎_, inl, inr, ⊎-elim}
-use Prim.Native.Nat.{ℕ, _+_, _<_, _≤_}
+use Prim.Native.Nat.{ℕ, _<_}
 use native.Mathlib.Omega.{arith}
 use Rattle.meaning.specs.Forest.{Par, Ages, ancestor}
 use Rattle.laws.specs.Bools.{clash, eq?, not-true, some-inj}

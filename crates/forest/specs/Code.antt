@@ -1,8 +1,8 @@
 -- The equations by which code fills columns for one position in the order of time: no steps are counted here.
-use mathlib.Core.Path.{_≡_, refl, sym, ap, _∙_}
+use mathlib.Core.Path.{_≡_, ap, _∙_}
 use mathlib.Core.Bool.{Bool, true, false}
 use mathlib.Core.List.{List}
-use mathlib.Core.Option.{Option, none, some}
+use mathlib.Core.Option.{none, some}
 use mathlib.Core.Logic.{_⊎_, inl, inr, ⊎-elim}
 use Prim.Native.Nat.{ℕ, suc, _<_, _≤_}
 use native.Mathlib.Omega.{arith}
@@ -37,11 +37,13 @@ module _ (P : Par) (rank : ℕ → ℕ) (ok : Aged P rank) (N : List ℕ) (nd : 
   pub reached-step : (u : ℕ) → reached P S u ≡ or (mem u S) (any (feeds P (reached P S) u) N)
   reached-step u = bool-ext (λ h. down h (child-to (reached-of P rank ok S u h .2))) (λ h. up2 h (truth (mem u S)))
     where
-      down : (h : reached P S u ≡ true) → (u ≡ reached-of P rank ok S u h .0) ⊎ ((c : ℕ) × (P c ≡ some u) × Above P c (reached-of P rank ok S u h .0)) → or (mem u S) (any (feeds P (reached P S) u) N) ≡ true
+      down : (h : reached P S u ≡ true) → (u ≡ reached-of P rank ok S u h .0) ⊎ ((c : ℕ) × (P c ≡ some u) × Above P c (reached-of P rank ok S u h .0)) →
+          or (mem u S) (any (feeds P (reached P S) u) N) ≡ true
       down h (inl q) = let m : mem u S ≡ true = rw q (reached-of P rank ok S u h .1) in rw m
       down h (inr c) = ⊎-elim
           (λ (m : mem u S ≡ true). rw m)
-          (λ (m : mem u S ≡ false). rw m (any-yes (feeds P (reached P S) u) (c .0) N (nd .listed (c .1)) (of-feeds P (reached P S) u (c .0) (c .1) (of-reached P rank ok S (c .0) (reached-of P rank ok S u h .0, reached-of P rank ok S u h .1, c .2)))))
+          (λ (m : mem u S ≡ false). rw m (any-yes (feeds P (reached P S) u) (c .0) N (nd .listed (c .1))
+          (of-feeds P (reached P S) u (c .0) (c .1) (of-reached P rank ok S (c .0) (reached-of P rank ok S u h .0, reached-of P rank ok S u h .1, c .2)))))
           (truth (mem u S))
 
       up2 : or (mem u S) (any (feeds P (reached P S) u) N) ≡ true → (mem u S ≡ true) ⊎ (mem u S ≡ false) → reached P S u ≡ true

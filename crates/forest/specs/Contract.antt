@@ -1,9 +1,9 @@
 -- A forest drawn together to a set K of its nodes: what stands, the nearest above and the nearest below stay.
-use mathlib.Core.Path.{_≡_, refl, sym, ap, _∙_}
+use mathlib.Core.Path.{_≡_, refl, ap}
 use mathlib.Core.Bool.{Bool, true, false}
-use mathlib.Core.Option.{Option, none, some}
+use mathlib.Core.Option.{some}
 use mathlib.Core.Logic.{_⊎_, inl, inr, ⊎-elim}
-use Prim.Native.Nat.{ℕ, _<_, _≤_}
+use Prim.Native.Nat.{ℕ, _<_}
 use native.Mathlib.Omega.{arith}
 use Rattle.meaning.specs.Forest.{Par}
 use Rattle.laws.specs.Bools.{clash, eq?}
@@ -172,4 +172,9 @@ module _ {P : Par} {K : ℕ → Bool} {Q : Par} (c : Contract P K Q) where
     low-in-P x y = record { in-set = y .in-set; below = trans (x .below) (order-in (y .below)); all = λ m z. order-in (y .all m (order-out (x .in-set) (sub _ m) (x .all (sub _ m) z))) }
 
     pub low-out-P : {u a w : ℕ} → Low P K a u → Low P M w u → Low Q M w a
-    low-out-P x y = record { in-set = y .in-set; below = order-out (x .in-set) (sub _ (y .in-set)) (x .all (sub _ (y .in-set)) (y .below)); all = λ m z. order-out (sub _ (y .in-set)) (sub _ m) (y .all m (trans (x .below) (order-in z))) }
+    low-out-P x y = record {
+      in-set = y .in-set;
+      below = order-out (x .in-set) (sub _ (y .in-set)) (x .all (sub _ (y .in-set)) (y .below));
+      all = λ m z. order-out
+          (sub _ (y .in-set)) (sub _ m) (y .all m (trans (x .below) (order-in z)));
+    }

@@ -2,8 +2,8 @@
 use mathlib.Core.Path.{_≡_, refl, sym, ap, _∙_, fun-ext}
 use mathlib.Core.Bool.{Bool, true, false}
 use mathlib.Core.List.{List}
-use mathlib.Core.Option.{Option, none, some}
-use mathlib.Core.Logic.{_⊎_, inl, inr, ⊎-elim}
+use mathlib.Core.Option.{none, some}
+use mathlib.Core.Logic.{⊎-elim}
 use Prim.Native.Nat.{ℕ, _≤_}
 use Rattle.meaning.specs.Forest.{Par, Ages, Rules, reached, low, drawn}
 use Rattle.laws.specs.Bools.{truth, none-some}
@@ -35,10 +35,12 @@ module _ (P : Par) (rank : ℕ → ℕ) (ok : Aged P rank) (S : List ℕ) where
       over b w k f = let r : _ = reached-of P rank ok S b k in of-reached P rank ok S w (r .0, r .1, trans (step f here) (r .2))
 
 -- two forests that agree on what is reached
-module _ (rule : Rules) (pr : Profile rule) (P Q : Par) (rp rq : ℕ → ℕ) (okP : Aged P rp) (okQ : Aged Q rq) (N M : List ℕ) (nP : Nodes P N) (nQ : Nodes Q M) (S : List ℕ) (same : (b : ℕ) → reached P S b ≡ reached Q S b) (par : (b : ℕ) → reached P S b ≡ true → P b ≡ Q b) where
+module _ (rule : Rules) (pr : Profile rule) (P Q : Par) (rp rq : ℕ → ℕ) (okP : Aged P rp) (okQ : Aged Q rq) (N M : List ℕ) (nP : Nodes P N) (nQ : Nodes Q M) (S : List ℕ)
+    (same : (b : ℕ) → reached P S b ≡ reached Q S b) (par : (b : ℕ) → reached P S b ≡ true → P b ≡ Q b) where
   one-cut : cut P (reached P S) ≡ cut Q (reached Q S)
   unfolding cut
-  one-cut = fun-ext (λ b. ⊎-elim (λ (k : reached P S b ≡ true). rw (k, cut) (rw (sym (same b) ∙ k, cut) (par b k))) (λ (k : reached P S b ≡ false). rw (k, cut) (rw (sym (same b) ∙ k, cut))) (truth (reached P S b)))
+  one-cut = fun-ext (λ b. ⊎-elim (λ (k : reached P S b ≡ true). rw (k, cut) (rw (sym (same b) ∙ k, cut) (par b k)))
+      (λ (k : reached P S b ≡ false). rw (k, cut) (rw (sym (same b) ∙ k, cut))) (truth (reached P S b)))
 
   abbrev W : Par
   W = cut Q (reached Q S)

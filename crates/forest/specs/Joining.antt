@@ -1,7 +1,7 @@
 -- A batch joined to a forest, and to the forest cleaned: the second is the first drawn together.
-use mathlib.Core.Path.{_≡_, refl, sym, ap, _∙_}
+use mathlib.Core.Path.{_≡_, sym, ap, _∙_}
 use mathlib.Core.Bool.{Bool, true, false}
-use mathlib.Core.Option.{Option, none, some}
+use mathlib.Core.Option.{some}
 use mathlib.Core.Logic.{_⊎_, inl, inr, ⊎-elim}
 use Prim.Native.Nat.{ℕ}
 use Rattle.meaning.specs.Words.{or}
@@ -74,7 +74,8 @@ module _ (new : ℕ → Bool) (S : Set) (T B : Par) (bt : Grafted new S T B) (K 
     enter n here = inl (n, here)
     enter {u} n (step {b} {p} e x) = go (truth (new b)) (enter n x)
       where
-        go : (new b ≡ true) ⊎ (new b ≡ false) → ((new p ≡ false) × Above T u p) ⊎ ((q : ℕ) × S q × Above T u q × Above J q p) → ((new b ≡ false) × Above T u b) ⊎ ((q : ℕ) × S q × Above T u q × Above J q b)
+        go : (new b ≡ true) ⊎ (new b ≡ false) → ((new p ≡ false) × Above T u p) ⊎ ((q : ℕ) × S q × Above T u q × Above J q p) →
+            ((new b ≡ false) × Above T u b) ⊎ ((q : ℕ) × S q × Above T u q × Above J q b)
         go m (inr r) = inr (r .0, r .1, r .2, step e (r .3))
         go (inl m) (inl r) = ⊎-elim (λ f. absurd (clash f (r .0))) (λ s. inr (p, s, r .1, step e here)) (bt .named (sym (jn .fresh m) ∙ e))
         go (inr m) (inl r) = inl (m, step (sym (jn .old m) ∙ e) (r .1))
@@ -105,8 +106,9 @@ module _ (new : ℕ → Bool) (S : Set) (T B : Par) (bt : Grafted new S T B) (K 
           fresh-child n m g = ⊎-elim (λ x. absurd (clash x n)) (λ x. kept-K (has u x)) (bt .named (sym (jn .fresh m) ∙ g))
 
           old : new u ≡ false → Kept u ≡ true
-          old n = ⊎-elim (λ m. fresh-child n m e) (λ m. ⊎-elim (λ k. fresh-child n k f) (λ k. kept-K (st u (two ne (sym (jn .old m) ∙ e) (sym (jn .old k) ∙ f) (reached-old m r) (reached-old k s)))) (truth (new d))) (truth (new c))
+          old n = ⊎-elim (λ m. fresh-child n m e) (λ m. ⊎-elim (λ k. fresh-child n k f)
+              (λ k. kept-K (st u (two ne (sym (jn .old m) ∙ e) (sym (jn .old k) ∙ f) (reached-old m r) (reached-old k s)))) (truth (new d))) (truth (new c))
 
-      -- the same for the rule of M-110
+      -- the same for the rule that every reached node stands
       pub kept-reached : ((v : ℕ) → Reached T S v → K v ≡ true) → (u : ℕ) → Reached J S2 u → Kept u ≡ true
       kept-reached st u r = ⊎-elim kept-new (λ n. kept-K (st u (reached-old n r))) (truth (new u))

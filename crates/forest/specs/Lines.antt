@@ -1,9 +1,8 @@
 -- Lines up and down the forest at one position: at or above, where two lines part, and times that grow upwards.
 use mathlib.Core.Path.{_≡_, refl, sym, ap, _∙_}
-use mathlib.Core.Bool.{Bool, true, false}
-use mathlib.Core.Option.{Option, none, some}
+use mathlib.Core.Option.{some}
 use mathlib.Core.Logic.{_⊎_, inl, inr, ⊎-elim}
-use Prim.Native.Nat.{ℕ, zero, suc, _+_, _<_, _≤_}
+use Prim.Native.Nat.{ℕ, _<_, _≤_}
 use native.Mathlib.Omega.{arith}
 use Rattle.meaning.specs.Forest.{Par}
 use Rattle.laws.specs.Bools.{some-inj, eq?}
@@ -97,7 +96,3 @@ module _ {P : Par} (rank : ℕ → ℕ) (ok : Ranked P rank) where
   -- two children of one node above one node are the same
   pub same-child : {c d u s : ℕ} → P c ≡ some u → P d ≡ some u → Above P c s → Above P d s → c ≡ d
   same-child e f x y = antisym (squeeze e x y (ok .grows f)) (squeeze f y x (ok .grows e))
-
-  pub proper : {a b : ℕ} → Above P a b → (a ≡ b → ⊥) → rank b < rank a
-  proper here n = absurd (n refl)
-  proper (step e x) n = omega (arith, rank-le x, ok .grows e)

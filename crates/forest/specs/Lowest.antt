@@ -1,10 +1,10 @@
 -- What the rules of what stands share, and the nearest standing node at or below a reached one.
-use mathlib.Core.Path.{_≡_, refl, sym, _∙_}
+use mathlib.Core.Path.{_≡_, refl, sym}
 use mathlib.Core.Bool.{Bool, true, false}
 use mathlib.Core.List.{List}
 use mathlib.Core.Option.{Option, none, some}
 use mathlib.Core.Logic.{_⊎_, inl, inr, ⊎-elim}
-use Prim.Native.Nat.{ℕ, zero, suc, _<_, _≤_}
+use Prim.Native.Nat.{ℕ, zero, suc, _≤_}
 use native.Mathlib.Omega.{arith}
 use Rattle.meaning.specs.Words.{firstOf}
 use Rattle.meaning.specs.Forest.{Par, reached, feeds, stands, low}
@@ -15,7 +15,7 @@ use Rattle.forest.specs.Contract.{Set, Reached, Stands, sample, two, Low
 use Rattle.forest.specs.Passing.{first-some, first-of}
 use Rattle.forest.specs.TreeLaws.{Aged, Nodes, reached-of, of-reached, feeds-of, of-feeds, stands-of, of-stands}
 
--- what 01's rule and M-110's share: samples stand, what stands is reached, and so does a fork
+-- what every rule of what stands shares: samples stand, what stands is reached, and so does a fork
 pub record Rule (P : Par) (S : Set) (K : ℕ → Bool) : Type 0 where
   pub samples : {s : ℕ} → S s → K s ≡ true
   pub only : {v : ℕ} → K v ≡ true → Reached P S v
@@ -79,7 +79,8 @@ module _ (P : Par) (rank : ℕ → ℕ) (ok : Aged P rank) (N : List ℕ) (nd : 
         go (inr c) = absurd (omega (arith, ok .ranked .grows (c .1)))
     of-low (suc k) u l r = go (K u) refl (child-to (r .2)) (λ c m s. of-low k c m s)
       where
-        go : (t : Bool) → K u ≡ t → (u ≡ r .0) ⊎ ((c : ℕ) × (P c ≡ some u) × Above P c (r .0)) → ((c : ℕ) → rank c ≤ k → Reached P (In S) c → (w : ℕ) × (low N P (reached P S) K k c ≡ some w)) → (w : ℕ) × (low N P (reached P S) K (suc k) u ≡ some w)
+        go : (t : Bool) → K u ≡ t → (u ≡ r .0) ⊎ ((c : ℕ) × (P c ≡ some u) × Above P c (r .0)) →
+            ((c : ℕ) → rank c ≤ k → Reached P (In S) c → (w : ℕ) × (low N P (reached P S) K k c ≡ some w)) → (w : ℕ) × (low N P (reached P S) K (suc k) u ≡ some w)
         go true e x ih = (u, rw (e, low))
         go false e (inl q) ih = absurd (clash (ru .samples {s = u} (rw q (r .1))) e)
         go false e (inr c) ih =

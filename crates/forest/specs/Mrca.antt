@@ -1,8 +1,8 @@
 -- The most recent common ancestor of two samples stands, and is theirs in the cleaned forest.
-use mathlib.Core.Path.{_≡_, refl, sym, ap, _∙_}
-use mathlib.Core.Bool.{Bool, true, false}
-use mathlib.Core.Option.{Option, none, some}
-use mathlib.Core.Logic.{_⊎_, inl, inr, ⊎-elim}
+use mathlib.Core.Path.{_≡_}
+use mathlib.Core.Bool.{Bool, true}
+use mathlib.Core.Option.{some}
+use mathlib.Core.Logic.{⊎-elim}
 use Prim.Native.Nat.{ℕ}
 use Rattle.meaning.specs.Forest.{Par}
 use Rattle.forest.specs.Lines.{Above, here, step, Ranked, Parts, first, second, fork, trans, above-eq, child-to, to-down, meet, antisym}

@@ -1,19 +1,18 @@
 -- The one-step law at a position: cleaning for S1 before a batch changes nothing that a cleaning for S2 after it sees.
-use mathlib.Core.Path.{_≡_, refl, sym, ap, _∙_}
+use mathlib.Core.Path.{_≡_, refl, ap, _∙_}
 use mathlib.Core.Bool.{Bool, true, false}
 use mathlib.Core.List.{List}
 use mathlib.Core.Option.{Option, none, some}
-use mathlib.Core.Logic.{_⊎_, inl, inr, ⊎-elim}
-use Prim.Native.Nat.{ℕ, _<_, _≤_}
-use native.Mathlib.Omega.{arith}
+use mathlib.Core.Logic.{⊎-elim}
+use Prim.Native.Nat.{ℕ, _≤_}
 use Rattle.meaning.specs.Words.{or}
 use Rattle.meaning.specs.Forest.{Par, Ages, Rules, reached, low, drawn}
-use Rattle.laws.specs.Bools.{truth, none-some, or-left, or-right}
+use Rattle.laws.specs.Bools.{none-some, or-left, or-right}
 use Rattle.laws.specs.Facts.{In}
 use Rattle.forest.specs.Lines.{here}
 use Rattle.forest.specs.Contract.{Low, Contract}
 use Rattle.forest.specs.Joining.{contract-join, low-join, reached-old}
-use Rattle.forest.specs.TreeLaws.{Aged, Nodes, drawn-contract}
+use Rattle.forest.specs.TreeLaws.{Nodes, drawn-contract}
 use Rattle.forest.specs.Lowest.{Rule, low-of, of-low}
 use Rattle.forest.specs.Redrawn.{contract-aged, low-reached, redrawn, redrawn-low}
 use Rattle.forest.specs.Profile.{joinPar, joinPar-joined, Setting, Profile}
@@ -24,7 +23,8 @@ module _ (new : ℕ → Bool) (T B : Par) (rank : ℕ → ℕ) (S1 S2 : List ℕ
   kept = λ u. or (new u) (K u)
 
   pub drawn-join : Contract (joinPar new B T) kept (joinPar new B (drawn T K))
-  drawn-join = contract-join new (In S1) T B (st .batch) K (λ s m. ru .samples m) (joinPar new B T) (joinPar-joined new B T) (drawn T K) (joinPar new B (drawn T K)) (drawn-contract T K rank (st .base-aged)) (joinPar-joined new B (drawn T K))
+  drawn-join = contract-join new (In S1) T B (st .batch) K (λ s m. ru .samples m) (joinPar new B T) (joinPar-joined new B T) (drawn T K) (joinPar new B (drawn T K))
+      (drawn-contract T K rank (st .base-aged)) (joinPar-joined new B (drawn T K))
 
   pub kept-samples : (s : ℕ) → In S2 s → kept s ≡ true
   kept-samples s m = ⊎-elim (λ (e : new s ≡ true). or-left (K s) e) (λ (i : In S1 s). or-right (new s) (K s) (ru .samples i)) (st .from s m)
@@ -85,7 +85,8 @@ module _ (rule : Rules) (pr : Profile rule) (new : ℕ → Bool) (T B : Par) (ra
     step-low-new u l n = step-low u u l l (record { in-set = or-left (K u) n; below = here; all = λ m x. x })
 
     pub step-low-old : (u a : ℕ) → rank u ≤ Ages → rank a ≤ Ages → new u ≡ false → low NT T (reached T S1) K Ages u ≡ some a → lowThen a ≡ lowNow u
-    step-low-old u a l m n h = step-low u a l m (low-join new (In S1) T B (st .batch) K (λ s i. rule-T .samples i) J (joinPar-joined new B T) n (low-of T rank (st .base-aged) NT ndT S1 K rule-T Ages a u h))
+    step-low-old u a l m n h = step-low u a l m
+        (low-join new (In S1) T B (st .batch) K (λ s i. rule-T .samples i) J (joinPar-joined new B T) n (low-of T rank (st .base-aged) NT ndT S1 K rule-T Ages a u h))
 
     -- one that was dropped would have been dropped
     pub step-low-gone : (u : ℕ) → rank u ≤ Ages → new u ≡ false → low NT T (reached T S1) K Ages u ≡ none → lowNow u ≡ none

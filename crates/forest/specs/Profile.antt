@@ -1,11 +1,10 @@
 -- A rule of what stands, and all that is asked of it; 01's rule and the rule that every reached node stands.
-use mathlib.Core.Path.{_≡_, refl, sym, ap, _∙_, fun-ext}
+use mathlib.Core.Path.{_≡_, fun-ext}
 use mathlib.Core.Bool.{Bool, true, false}
 use mathlib.Core.List.{List}
-use mathlib.Core.Option.{Option, none, some}
-use mathlib.Core.Logic.{_⊎_, inl, inr, ⊎-elim}
+use mathlib.Core.Logic.{_⊎_}
 use Prim.Native.Nat.{ℕ}
-use Rattle.meaning.specs.Words.{or, mem}
+use Rattle.meaning.specs.Words.{or}
 use Rattle.meaning.specs.Forest.{Par, Rules, reached, stands}
 use Rattle.laws.specs.Bools.{bool-ext}
 use Rattle.laws.specs.Facts.{In}
@@ -34,9 +33,11 @@ pub record Setting (new : ℕ → Bool) (T B : Par) (rank : ℕ → ℕ) (S1 S2 
 pub record Profile (rule : Rules) : Type 0 where
   pub is-rule : (P : Par) (rank : ℕ → ℕ) → Aged P rank → (N : List ℕ) → Nodes P N → (S : List ℕ) → Rule P (In S) (rule N P S)
   -- drawing the forest together to a set that has all that stands does not change what stands
-  pub contracted : (P Q : Par) (K : ℕ → Bool) (rank : ℕ → ℕ) → Contract P K Q → Aged P rank → (N M : List ℕ) → Nodes P N → Nodes Q M → (S : List ℕ) → ((s : ℕ) → In S s → K s ≡ true) → ((v : ℕ) → rule N P S v ≡ true → K v ≡ true) → rule M Q S ≡ rule N P S
+  pub contracted : (P Q : Par) (K : ℕ → Bool) (rank : ℕ → ℕ) → Contract P K Q → Aged P rank → (N M : List ℕ) → Nodes P N → Nodes Q M → (S : List ℕ) →
+      ((s : ℕ) → In S s → K s ≡ true) → ((v : ℕ) → rule N P S v ≡ true → K v ≡ true) → rule M Q S ≡ rule N P S
   -- what stands after a batch stood before it, or is new
-  pub dropped : (new : ℕ → Bool) (T B : Par) (rank : ℕ → ℕ) (S1 S2 : List ℕ) → Setting new T B rank S1 S2 → (N M : List ℕ) → Nodes T N → Nodes (joinPar new B T) M → (v : ℕ) → rule M (joinPar new B T) S2 v ≡ true → or (new v) (rule N T S1 v) ≡ true
+  pub dropped : (new : ℕ → Bool) (T B : Par) (rank : ℕ → ℕ) (S1 S2 : List ℕ) → Setting new T B rank S1 S2 → (N M : List ℕ) → Nodes T N → Nodes (joinPar new B T) M → (v : ℕ) →
+      rule M (joinPar new B T) S2 v ≡ true → or (new v) (rule N T S1 v) ≡ true
 
 pub stands-profile : Profile stands
 stands-profile = record {
@@ -47,7 +48,8 @@ stands-profile = record {
       (λ e. of-stands P rank ok N nd S v (stands-in c (In S) rank (ok .ranked) h (λ u s. sub u (of-stands P rank ok N nd S u s)) (stands-of Q rank okQ M nm S v e)))
       (λ e. of-stands Q rank okQ M nm S v (stands-out c (In S) rank (ok .ranked) h (sub v e) (stands-of P rank ok N nd S v e))));
   dropped = λ new T B rank S1 S2 st N M nd nm v e.
-      kept-all new (In S1) T B (st .batch) (stands N T S1) (λ s m. stands-rule T rank (st .base-aged) N nd S1 .samples m) (joinPar new B T) (joinPar-joined new B T) (In S2) (st .from) (λ u s. of-stands T rank (st .base-aged) N nd S1 u s) v (stands-of (joinPar new B T) rank (st .aged) M nm S2 v e);
+      kept-all new (In S1) T B (st .batch) (stands N T S1) (λ s m. stands-rule T rank (st .base-aged) N nd S1 .samples m) (joinPar new B T) (joinPar-joined new B T) (In S2)
+      (st .from) (λ u s. of-stands T rank (st .base-aged) N nd S1 u s) v (stands-of (joinPar new B T) rank (st .aged) M nm S2 v e);
 }
 
 -- every reached node stands
@@ -63,5 +65,6 @@ line-profile = record {
       (λ e. of-reached P rank ok S v (reached-in c (In S) rank (ok .ranked) h (reached-of Q rank okQ S v e)))
       (λ e. of-reached Q rank okQ S v (reached-out c (In S) rank (ok .ranked) h (sub v e) (reached-of P rank ok S v e))));
   dropped = λ new T B rank S1 S2 st N M nd nm v e.
-      kept-reached new (In S1) T B (st .batch) (reached T S1) (λ s m. reached-rule T rank (st .base-aged) N nd S1 .samples m) (joinPar new B T) (joinPar-joined new B T) (In S2) (st .from) (λ u s. of-reached T rank (st .base-aged) S1 u s) v (reached-of (joinPar new B T) rank (st .aged) S2 v e);
+      kept-reached new (In S1) T B (st .batch) (reached T S1) (λ s m. reached-rule T rank (st .base-aged) N nd S1 .samples m) (joinPar new B T) (joinPar-joined new B T)
+      (In S2) (st .from) (λ u s. of-reached T rank (st .base-aged) S1 u s) v (reached-of (joinPar new B T) rank (st .aged) S2 v e);
 }

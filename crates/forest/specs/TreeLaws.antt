@@ -1,14 +1,14 @@
 -- The functions that compute reached, stands, up and the cleaned forest say what the relations say.
 use mathlib.Core.Path.{_≡_, refl, sym, ap, _∙_}
 use mathlib.Core.Bool.{Bool, true, false}
-use mathlib.Core.List.{List, [], _∷_}
+use mathlib.Core.List.{List}
 use mathlib.Core.Option.{Option, none, some}
 use mathlib.Core.Logic.{_⊎_, inl, inr, ⊎-elim}
 use Prim.Native.Nat.{ℕ, zero, suc, _+_, _<_, _≤_}
 use native.Mathlib.Omega.{arith}
 use lib.Dec.{eqb, leb}
 use borrow.Author.Tests.{eqb-true, eq-eqb, le-leb, leb-true}
-use Rattle.meaning.specs.Words.{or, mem, any, count}
+use Rattle.meaning.specs.Words.{or, mem, count}
 use Rattle.meaning.specs.Forest.{Par, Ages, is, above, reached, feeds, stands, near, up, drawn}
 use Rattle.laws.specs.Bools.{clash, truth}
 use Rattle.laws.specs.Facts.{In, Distinct}
@@ -93,7 +93,8 @@ module _ (P : Par) (rank : ℕ → ℕ) (ok : Aged P rank) (N : List ℕ) (nd : 
     where
       go : (mem u S ≡ true) ⊎ (mem u S ≡ false) → or (mem u S) (leb 2 (count (feeds P (reached P S) u) N)) ≡ true
       go (inl m) = rw m
-      go (inr m) = rw m (le-leb _ _ (count-two (feeds P (reached P S) u) c d N n (nd .listed e) (nd .listed f) (of-feeds P (reached P S) u c e (of-reached P rank ok S c r)) (of-feeds P (reached P S) u d f (of-reached P rank ok S d s))))
+      go (inr m) = rw m (le-leb _ _ (count-two (feeds P (reached P S) u) c d N n (nd .listed e) (nd .listed f) (of-feeds P (reached P S) u c e (of-reached P rank ok S c r))
+          (of-feeds P (reached P S) u d f (of-reached P rank ok S d s))))
 
 module _ (P : Par) (K : ℕ → Bool) where
   pub near-of : (k w v : ℕ) → near P K k v ≡ some w → Near P K w v
@@ -135,6 +136,7 @@ module _ (P : Par) (K : ℕ → Bool) where
     unfolding drawn
     drawn-contract = record {
       child = λ {b} {w} e. ⊎-elim (λ k. k) (λ (k : K b ≡ false). absurd (let h : none ≡ some w = rw (k, drawn) at e in let z : _≡_ {A = ℕ} 0 1 = cc in omega arith)) (truth (K b));
-      into = λ {b} {w} e. ⊎-elim (λ (k : K b ≡ true). up-of w b (rw (k, drawn) at e)) (λ (k : K b ≡ false). absurd (let h : none ≡ some w = rw (k, drawn) at e in let z : _≡_ {A = ℕ} 0 1 = cc in omega arith)) (truth (K b));
+      into = λ {b} {w} e. ⊎-elim (λ (k : K b ≡ true). up-of w b (rw (k, drawn) at e))
+          (λ (k : K b ≡ false). absurd (let h : none ≡ some w = rw (k, drawn) at e in let z : _≡_ {A = ℕ} 0 1 = cc in omega arith)) (truth (K b));
       onto = λ {b} {w} k u. rw (k, drawn) (of-up w b u);
     }

@@ -1,10 +1,10 @@
 -- 01, "Allele": cleaning changes no sample's allele.
 use mathlib.Core.Path.{_≡_, refl, sym, ap, _∙_}
 use mathlib.Core.Bool.{Bool, true, false}
-use mathlib.Core.List.{List, [], _∷_}
+use mathlib.Core.List.{List}
 use mathlib.Core.Option.{Option, none, some}
 use mathlib.Core.Logic.{_⊎_, inl, inr, ⊎-elim}
-use Prim.Native.Nat.{ℕ, zero, suc, _+_, _<_, _≤_}
+use Prim.Native.Nat.{ℕ, _<_}
 use native.Mathlib.Omega.{arith}
 use lib.Dec.{ltb}
 use lib.ListN.{length, getD}
@@ -15,11 +15,11 @@ use Rattle.meaning.specs.Forest.{Par, Ages, Rules, parentIn, ancestor, near, dr
 use Rattle.meaning.specs.Clean.{moved, standsAt, lowAt, clean}
 use Rattle.meaning.specs.Allele.{carries, lastState, alleleAt}
 use Rattle.laws.specs.Bools.{clash, truth, eq?, not-true, none-some}
-use Rattle.laws.specs.Facts.{In, All, done, also, Good, CleanOk}
+use Rattle.laws.specs.Facts.{In, CleanOk}
 use Rattle.forest.specs.Lines.{Above, trans}
 use Rattle.forest.specs.Contract.{Near, Low, near-in, near-above}
 use Rattle.forest.specs.TreeLaws.{Aged, near-of, of-near}
-use Rattle.forest.specs.Lowest.{Rule, low-of, of-low}
+use Rattle.forest.specs.Lowest.{low-of, of-low}
 use Rattle.forest.specs.Redrawn.{contract-aged}
 use Rattle.forest.specs.Profile.{Profile}
 use Rattle.forest.specs.Carriers.{near-least, near-low, near-came, of-ancestor, low-order}
@@ -102,7 +102,8 @@ module _ (rule : Rules) (pr : Profile rule) (R : Record) (S : List ℕ) (ok : Cl
     -- the nearest carrier u above s, and the last of its rows, where its mutations come to w
     module _ (u w : ℕ) (n : Near P (carries (R .muts) i) u s) (e : G x u ≡ some w) where
       same-near : Near (drawn P K) (carries (moved pos G (R .muts)) i) w s
-      same-near = near-low (drawn-at rule pr R S ok x) (timeOf (R .nodes)) (aged .ranked) (carries (R .muts) i) (carries (moved pos G (R .muts)) i) came ks n (low-at u w e) (carried-to i pos G u w (R .muts) (near-in n) e)
+      same-near = near-low (drawn-at rule pr R S ok x) (timeOf (R .nodes)) (aged .ranked) (carries (R .muts) i) (carries (moved pos G (R .muts)) i) came ks n (low-at u w e)
+          (carried-to i pos G u w (R .muts) (near-in n) e)
 
       -- a fish with mutations that come to w is u or above it
       comes : (v : ℕ) → carries (R .muts) i v ≡ true → G x v ≡ some w → (v ≡ u) ⊎ Proper v u
@@ -141,7 +142,8 @@ module _ (rule : Rules) (pr : Profile rule) (R : Record) (S : List ℕ) (ok : Cl
         gone : carrier R i s ≡ none → (o : Option ℕ) → near (drawn P K) (carries (moved pos G (R .muts)) i) Ages s ≡ o → o ≡ none
         gone e none f = refl
         gone e (some w) f =
-            let r : _ = near-came (drawn-at rule pr R S ok x) (timeOf (R .nodes)) (aged .ranked) (carries (R .muts) i) (carries (moved pos G (R .muts)) i) came (near-of (drawn P K) (carries (moved pos G (R .muts)) i) Ages w s f) in
+            let r : _ = near-came (drawn-at rule pr R S ok x) (timeOf (R .nodes)) (aged .ranked) (carries (R .muts) i) (carries (moved pos G (R .muts)) i) came
+            (near-of (drawn P K) (carries (moved pos G (R .muts)) i) Ages w s f) in
             absurd (none-some e (of-near P (carries (R .muts) i) (timeOf (R .nodes)) aged Ages (r .0) s (omega arith) (r .1)))
 
         go : (o : Option ℕ) → carrier R i s ≡ o → alleleAt C i s ≡ alleleAt R i s
@@ -151,7 +153,8 @@ module _ (rule : Rules) (pr : Profile rule) (R : Record) (S : List ℕ) (ok : Cl
         go (some u) e =
             let n : Near P (carries (R .muts) i) u s = near-of P (carries (R .muts) i) Ages u s e in
             let w : _ = low-has u s ms (near-above n) in
-            let f : near (drawn P K) (carries (moved pos G (R .muts)) i) Ages s ≡ some (w .0) = of-near (drawn P K) (carries (moved pos G (R .muts)) i) (timeOf (R .nodes)) agedQ Ages (w .0) s (omega arith) (same-near u (w .0) n (w .1)) in
+            let f : near (drawn P K) (carries (moved pos G (R .muts)) i) Ages s ≡ some (w .0) = of-near (drawn P K) (carries (moved pos G (R .muts)) i)
+            (timeOf (R .nodes)) agedQ Ages (w .0) s (omega arith) (same-near u (w .0) n (w .1)) in
             allele-some C i s (w .0) (clean-carrier l ∙ f) ∙ clean-state (w .0) ∙ same-last u (w .0) n (w .1) (stateOf (R .sites) i) ∙ sym (allele-some R i s u e)
 
     -- what carries a mutation of the site shows that the site lies on the chromosome
@@ -185,13 +188,16 @@ module _ (rule : Rules) (pr : Profile rule) (R : Record) (S : List ℕ) (ok : Cl
   abbrev OnIt : Mutation → Type 0
   OnIt m = (mem (m .node) (births (R .nodes)) ≡ true) × (posOf (R .sites) (m .site) < R .len)
 
-  moved-settled : (m n : Mutation) (w v : ℕ) → OnIt m → Settles R m n → lowAt rule R S (posOf (R .sites) (m .site)) (m .node) ≡ some w → lowAt rule R S (posOf (R .sites) (n .site)) (n .node) ≡ some v → Settles (clean rule S R) (put m w) (put n v)
+  moved-settled : (m n : Mutation) (w v : ℕ) → OnIt m → Settles R m n → lowAt rule R S (posOf (R .sites) (m .site)) (m .node) ≡ some w →
+      lowAt rule R S (posOf (R .sites) (n .site)) (n .node) ≡ some v → Settles (clean rule S R) (put m w) (put n v)
   unfolding clean
   moved-settled m n w v o t e f q = not-true (ancestor (parentIn (clean rule S R .edges) (posOf (R .sites) (m .site))) v w) (λ h.
       let g : lowAt rule R S (posOf (R .sites) (m .site)) (n .node) ≡ some v = ap (λ (k : ℕ). lowAt rule R S (posOf (R .sites) k) (n .node)) q ∙ f in
-      let c : ancestor (drawn (P rule pr R S ok st (m .site)) (K rule pr R S ok st (m .site))) v w ≡ true = sym (ap (λ (F : Par). ancestor F v w) (clean-parent rule pr R S ok (posOf (R .sites) (m .site)) (o .1))) ∙ h in
+      let c : ancestor (drawn (P rule pr R S ok st (m .site)) (K rule pr R S ok st (m .site))) v w ≡ true = sym
+      (ap (λ (F : Par). ancestor F v w) (clean-parent rule pr R S ok (posOf (R .sites) (m .site)) (o .1))) ∙ h in
       clash
-      (low-order (P rule pr R S ok st (m .site)) (timeOf (R .nodes)) (aged rule pr R S ok st (m .site)) (drawn-at rule pr R S ok (posOf (R .sites) (m .site))) (low-at rule pr R S ok st (m .site) (m .node) w e) (low-at rule pr R S ok st (m .site) (n .node) v g) c)
+      (low-order (P rule pr R S ok st (m .site)) (timeOf (R .nodes)) (aged rule pr R S ok st (m .site)) (drawn-at rule pr R S ok (posOf (R .sites) (m .site)))
+      (low-at rule pr R S ok st (m .site) (m .node) w e) (low-at rule pr R S ok st (m .site) (n .node) v g) c)
       (t q))
 
   clean-order : Pairs (Settles (clean rule S R)) (moved (posOf (R .sites)) (lowAt rule R S) (R .muts))

@@ -1,17 +1,17 @@
 -- Mutations at one site: which fish carry one, before and after mutations move, and the state of the last row.
 use mathlib.Core.Path.{_≡_, refl, sym, ap, _∙_}
-use mathlib.Core.Bool.{Bool, true, false}
-use mathlib.Core.List.{List, [], _∷_, _++_}
+use mathlib.Core.Bool.{true, false}
+use mathlib.Core.List.{List, [], _∷_}
 use mathlib.Core.Option.{Option, none, some}
-use mathlib.Core.Logic.{_⊎_, inl, inr, ⊎-elim}
+use mathlib.Core.Logic.{_⊎_, ⊎-elim}
 use Prim.Native.Nat.{ℕ}
 use lib.Dec.{eqb}
-use borrow.Author.Tests.{eqb-true, eqb-false, eq-eqb}
-use Rattle.meaning.specs.Words.{and, any}
+use borrow.Author.Tests.{eqb-true, eq-eqb}
+use Rattle.meaning.specs.Words.{any}
 use Rattle.meaning.specs.Rows.{Mutation}
 use Rattle.meaning.specs.Clean.{moved}
 use Rattle.meaning.specs.Allele.{sits, lastState, carries}
-use Rattle.laws.specs.Bools.{clash, truth, and-of, not-true, some-inj, none-some}
+use Rattle.laws.specs.Bools.{clash, truth, and-of, not-true}
 use Rattle.laws.specs.Facts.{All, done, also}
 use Rattle.history.specs.Lists.{all-both}
 use Rattle.history.specs.Pairs.{put, Pairs, with-all}
@@ -80,10 +80,12 @@ module _ (i : ℕ) where
         later : (u : ℕ) × (carries l i u ≡ true) × (G (pos i) u ≡ some w) → (u : ℕ) × (carries (m ∷ l) i u ≡ true) × (G (pos i) u ≡ some w)
         later r = (r .0, carries-later (r .0) m l (r .1), r .2)
 
-        go : (o : Option ℕ) → G (pos (m .site)) (m .node) ≡ o → (carries (moved pos G l) i w ≡ true → (u : ℕ) × (carries l i u ≡ true) × (G (pos i) u ≡ some w)) → (u : ℕ) × (carries (m ∷ l) i u ≡ true) × (G (pos i) u ≡ some w)
+        go : (o : Option ℕ) → G (pos (m .site)) (m .node) ≡ o → (carries (moved pos G l) i w ≡ true → (u : ℕ) × (carries l i u ≡ true) × (G (pos i) u ≡ some w)) →
+            (u : ℕ) × (carries (m ∷ l) i u ≡ true) × (G (pos i) u ≡ some w)
         go none e ih = later (ih (ap (λ (l : List Mutation). carries l i w) (sym (moved-none m l e)) ∙ h))
         go (some v) e ih = ⊎-elim
-            (λ (f : sits i w (put m v) ≡ true). let r : _ = sits-of w (put m v) f in (m .node, carries-now (m .node) m l (of-sits (m .node) m (r .0) refl), ap (λ (s : ℕ). G (pos s) (m .node)) (sym (r .0)) ∙ e ∙ ap some (r .1)))
+            (λ (f : sits i w (put m v) ≡ true). let r : _ = sits-of w (put m v) f in
+            (m .node, carries-now (m .node) m l (of-sits (m .node) m (r .0) refl), ap (λ (s : ℕ). G (pos s) (m .node)) (sym (r .0)) ∙ e ∙ ap some (r .1)))
             (λ (f : sits i w (put m v) ≡ false). later (ih (sym (carries-skip w (put m v) (moved pos G l) f) ∙ ap (λ (l : List Mutation). carries l i w) (sym (moved-some m l v e)) ∙ h)))
             (truth (sits i w (put m v)))
 
@@ -157,7 +159,8 @@ module _ (i : ℕ) where
         (λ (f : sits i u m ≡ false). miss f (G (pos (m .site)) (m .node)) refl (λ n. last-moved l b c (sym (carries-skip u m l f) ∙ h) n p))
         (truth (sits i u m))
       where
-        hit : sits i u m ≡ true → (carries l i u ≡ true) ⊎ (carries l i u ≡ false) → (carries l i u ≡ true → lastState i w (moved pos G l) (m .derived) ≡ lastState i u l (m .derived)) → lastState i w (moved pos G (m ∷ l)) o ≡ lastState i u (m ∷ l) p
+        hit : sits i u m ≡ true → (carries l i u ≡ true) ⊎ (carries l i u ≡ false) →
+            (carries l i u ≡ true → lastState i w (moved pos G l) (m .derived) ≡ lastState i u l (m .derived)) → lastState i w (moved pos G (m ∷ l)) o ≡ lastState i u (m ∷ l) p
         hit f t ih =
             let r : _ = sits-of u m f in
             let g : G (pos (m .site)) (m .node) ≡ some w = (λ j. G (pos (r .0 j)) (r .1 j)) ∙ goes in
@@ -166,7 +169,8 @@ module _ (i : ℕ) where
             ∙ ⊎-elim ih (λ (k : carries l i u ≡ false). last-none w (moved pos G l) (m .derived) (no-more m l f a c k) ∙ sym (last-none u l (m .derived) k)) t
             ∙ sym (last-hit u m l p f)
 
-        miss : sits i u m ≡ false → (v : Option ℕ) → G (pos (m .site)) (m .node) ≡ v → ((n : ℕ) → lastState i w (moved pos G l) n ≡ lastState i u l p) → lastState i w (moved pos G (m ∷ l)) o ≡ lastState i u (m ∷ l) p
+        miss : sits i u m ≡ false → (v : Option ℕ) → G (pos (m .site)) (m .node) ≡ v → ((n : ℕ) → lastState i w (moved pos G l) n ≡ lastState i u l p) →
+            lastState i w (moved pos G (m ∷ l)) o ≡ lastState i u (m ∷ l) p
         miss f none g ih = ap (λ (k : List Mutation). lastState i w k o) (moved-none pos G m l g) ∙ ih o ∙ sym (last-miss u m l p f)
         miss f (some v) g ih =
             let r : _ = last-any w (put m v) (moved pos G l) o in

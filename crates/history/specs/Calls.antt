@@ -1,13 +1,13 @@
 -- Demand 3 for tables: the last cleaned tables are equal row for row, with and without the cleanings in between.
 use mathlib.Core.Path.{_≡_, refl, sym, ap, _∙_}
-use mathlib.Core.Bool.{Bool, true}
+use mathlib.Core.Bool.{true}
 use mathlib.Core.List.{List, [], _∷_}
 use Prim.Native.Nat.{ℕ}
 use Rattle.meaning.specs.Words.{mem}
 use Rattle.meaning.specs.Rows.{Tables, Record, births, recordOf, tablesOf}
 use Rattle.meaning.specs.Forest.{Rules, stands}
 use Rattle.meaning.specs.Clean.{clean, cleaned}
-use Rattle.meaning.specs.Join.{BatchTables, Batch, batchOf, join, joined}
+use Rattle.meaning.specs.Join.{BatchTables, batchOf, join, joined}
 use Rattle.laws.specs.Facts.{In, Good, Closed, JoinOk, CleanOk}
 use Rattle.forest.specs.Profile.{Profile, stands-profile, line, line-profile}
 use Rattle.history.specs.Cleaned.{clean-closed}

@@ -1,9 +1,9 @@
 -- A cleaned record, read again: its nodes, its forest at each position, its mutations; and it is good again.
-use mathlib.Core.Path.{_≡_, refl, sym, ap, _∙_, fun-ext}
+use mathlib.Core.Path.{_≡_, refl, ap, _∙_, fun-ext}
 use mathlib.Core.Bool.{Bool, true, false}
-use mathlib.Core.List.{List, [], _∷_, _++_, map}
+use mathlib.Core.List.{List, [], _∷_}
 use mathlib.Core.Option.{Option, none, some}
-use mathlib.Core.Logic.{_⊎_, inl, inr, ⊎-elim}
+use mathlib.Core.Logic.{⊎-elim}
 use Prim.Native.Nat.{ℕ, _<_}
 use native.Mathlib.Omega.{arith}
 use Rattle.meaning.specs.Words.{mem}
@@ -97,12 +97,14 @@ module _ (rule : Rules) (pr : Profile rule) (R : Record) (S : List ℕ) (ok : Cl
   abbrev MutationOk : Mutation → Type 0
   MutationOk m = (mem (m .node) (kept rule R S) ≡ true) × (posOf (R .sites) (m .site) < R .len)
 
-  moved-kept : (l : List Mutation) → All (λ (m : Mutation). (mem (m .node) (births (R .nodes)) ≡ true) × (posOf (R .sites) (m .site) < R .len)) l → All MutationOk (moved (posOf (R .sites)) (lowAt rule R S) l)
+  moved-kept : (l : List Mutation) → All (λ (m : Mutation). (mem (m .node) (births (R .nodes)) ≡ true) × (posOf (R .sites) (m .site) < R .len)) l →
+      All MutationOk (moved (posOf (R .sites)) (lowAt rule R S) l)
   unfolding moved
   moved-kept [] done = done
   moved-kept (m ∷ l) (also p a) = go (lowAt rule R S (posOf (R .sites) (m .site)) (m .node)) refl (moved-kept l a)
     where
-      go : (o : Option ℕ) → lowAt rule R S (posOf (R .sites) (m .site)) (m .node) ≡ o → All MutationOk (moved (posOf (R .sites)) (lowAt rule R S) l) → All MutationOk (moved (posOf (R .sites)) (lowAt rule R S) (m ∷ l))
+      go : (o : Option ℕ) → lowAt rule R S (posOf (R .sites) (m .site)) (m .node) ≡ o → All MutationOk (moved (posOf (R .sites)) (lowAt rule R S) l) →
+          All MutationOk (moved (posOf (R .sites)) (lowAt rule R S) (m ∷ l))
       go none e ih = rw (e, moved) ih
       go (some w) e ih = rw (e, moved) (also (low-kept (posOf (R .sites) (m .site)) (m .node) w (p .1) e, p .1) ih)
 
@@ -124,7 +126,8 @@ module _ (rule : Rules) (pr : Profile rule) (R : Record) (S : List ℕ) (ok : Cl
       (λ (m : mem b (kept rule R S) ≡ false). omega (arith, time-none (clean rule S R .nodes) b (ap (mem b) clean-births ∙ m)))
       (truth (mem b (kept rule R S)))
 
-  clean-ends : (x v q : ℕ) → Any (Cov x v q) (clean rule S R .edges) → (mem v (births (clean rule S R .nodes)) ≡ true) × (mem q (births (clean rule S R .nodes)) ≡ true) × (timeOf (clean rule S R .nodes) v < timeOf (clean rule S R .nodes) q)
+  clean-ends : (x v q : ℕ) → Any (Cov x v q) (clean rule S R .edges) →
+      (mem v (births (clean rule S R .nodes)) ≡ true) × (mem q (births (clean rule S R .nodes)) ≡ true) × (timeOf (clean rule S R .nodes) v < timeOf (clean rule S R .nodes) q)
   clean-ends x v q a =
       let e : _ = clean-edge x v q a in
       let m : _ = drawn-ends x v q (e .0) (e .1) in

@@ -6,9 +6,9 @@ use mathlib.Core.Option.{Option, none, some}
 use mathlib.Core.Logic.{_⊎_, inl, inr, ⊎-elim}
 use Prim.Native.Nat.{ℕ, zero, suc, _+_, _<_, _≤_}
 use native.Mathlib.Omega.{arith}
-use lib.Dec.{eqb, leb, ltb}
+use lib.Dec.{ltb}
 use borrow.Author.Tests.{eqb-true, eq-eqb, lt-ltb, le-leb, ltb-true, leb-true}
-use Rattle.meaning.specs.Words.{and, mem, each, sort}
+use Rattle.meaning.specs.Words.{mem, each, sort}
 use Rattle.meaning.specs.Rows.{Edge}
 use Rattle.meaning.specs.Forest.{Par, holds, parentIn, is}
 use Rattle.meaning.specs.Clean.{shut, opened, runs, before, edgesFor}
@@ -76,7 +76,9 @@ module _ (p c : ℕ) (f : ℕ → Bool) (y : ℕ) where
   runs-of b q o x zero a = let r : _ = shut-of b q o x a in (r .0, r .1, inl (r .2))
   runs-of b q o x (suc k) a = go (f x) refl (λ o′ m. runs-of b q o′ (suc x) k m)
     where
-      go : (t : Bool) → f x ≡ t → ((o′ : Option ℕ) → Any (Cov y b q) (runs p c f o′ (suc x) k) → (c ≡ b) × (p ≡ q) × (Open o′ (suc x) y ⊎ ((f y ≡ true) × (suc x ≤ y) × (y < suc x + k)))) → (c ≡ b) × (p ≡ q) × (Open o x y ⊎ ((f y ≡ true) × (x ≤ y) × (y < x + suc k)))
+      go : (t : Bool) → f x ≡ t →
+          ((o′ : Option ℕ) → Any (Cov y b q) (runs p c f o′ (suc x) k) → (c ≡ b) × (p ≡ q) × (Open o′ (suc x) y ⊎ ((f y ≡ true) × (suc x ≤ y) × (y < suc x + k)))) →
+          (c ≡ b) × (p ≡ q) × (Open o x y ⊎ ((f y ≡ true) × (x ≤ y) × (y < x + suc k)))
       go true e ih =
           let r : _ = ih (opened o x) (rw (e, runs) at a) in (
             r .0,
@@ -114,11 +116,14 @@ module _ (p c : ℕ) (f : ℕ → Bool) (y : ℕ) where
   of-runs o x zero h (inr r) = absurd (omega (arith, r .1, r .2))
   of-runs o x (suc k) h r = go (f x) refl r (λ o′ g m. of-runs o′ (suc x) k g m)
     where
-      go : (t : Bool) → f x ≡ t → Open o x y ⊎ ((f y ≡ true) × (x ≤ y) × (y < x + suc k)) → ((o′ : Option ℕ) → ((s : ℕ) → o′ ≡ some s → s ≤ suc x) → Open o′ (suc x) y ⊎ ((f y ≡ true) × (suc x ≤ y) × (y < suc x + k)) → Any (Cov y c p) (runs p c f o′ (suc x) k)) → Any (Cov y c p) (runs p c f o x (suc k))
+      go : (t : Bool) → f x ≡ t → Open o x y ⊎ ((f y ≡ true) × (x ≤ y) × (y < x + suc k)) → ((o′ : Option ℕ) → ((s : ℕ) → o′ ≡ some s → s ≤ suc x) →
+          Open o′ (suc x) y ⊎ ((f y ≡ true) × (suc x ≤ y) × (y < suc x + k)) → Any (Cov y c p) (runs p c f o′ (suc x) k)) → Any (Cov y c p) (runs p c f o x (suc k))
       go true e (inl w) ih = rw (e, runs) (ih (opened o x) (opened-le o x h) (inl (open-on o x w)))
-      go true e (inr w) ih = rw (e, runs) (ih (opened o x) (opened-le o x h) (⊎-elim (λ (q : x ≡ y). inl (open-here o x h q)) (λ (q : x ≡ y → ⊥). inr (w .0, omega (arith, w .1), omega (arith, w .2))) (eq? x y)))
+      go true e (inr w) ih = rw (e, runs)
+          (ih (opened o x) (opened-le o x h) (⊎-elim (λ (q : x ≡ y). inl (open-here o x h q)) (λ (q : x ≡ y → ⊥). inr (w .0, omega (arith, w .1), omega (arith, w .2))) (eq? x y)))
       go false e (inl w) ih = rw (e, runs) (any-left (runs p c f none (suc x) k) (of-shut o x w))
-      go false e (inr w) ih = rw (e, runs) (any-right (shut p c o x) (ih none (λ s g. not-some g) (⊎-elim (λ (q : x ≡ y). absurd (clash (w .0) (rw q at e))) (λ (q : x ≡ y → ⊥). inr (w .0, omega (arith, w .1), omega (arith, w .2))) (eq? x y))))
+      go false e (inr w) ih = rw (e, runs) (any-right (shut p c o x) (ih none (λ s g. not-some g)
+          (⊎-elim (λ (q : x ≡ y). absurd (clash (w .0) (rw q at e))) (λ (q : x ≡ y → ⊥). inr (w .0, omega (arith, w .1), omega (arith, w .2))) (eq? x y))))
 
 is-of : (o : Option ℕ) (u : ℕ) → is o u ≡ true → o ≡ some u
 unfolding is
@@ -176,11 +181,13 @@ module _ (p c : ℕ) (f g : ℕ → Bool) where
       go true e ih = rw (h x (omega arith) ∙ e, runs) (rw (e, runs) (ih (opened o x)))
       go false e ih = rw (h x (omega arith) ∙ e, runs) (rw (e, runs) (ap (λ (r : List Edge). shut p c o x ++ r) (ih none)))
 
-pub edges-same : (L : ℕ) (t u : ℕ → ℕ) (D E : ℕ → Par) (fish : List ℕ) → Distinct fish → ((b : ℕ) → mem b fish ≡ true → t b ≡ u b) → ((x : ℕ) → x < L → D x ≡ E x) → edgesFor L t D fish ≡ edgesFor L u E fish
+pub edges-same : (L : ℕ) (t u : ℕ → ℕ) (D E : ℕ → Par) (fish : List ℕ) → Distinct fish → ((b : ℕ) → mem b fish ≡ true → t b ≡ u b) → ((x : ℕ) → x < L → D x ≡ E x) →
+    edgesFor L t D fish ≡ edgesFor L u E fish
 unfolding edgesFor
 edges-same L t u D E fish d h s =
     ap (each (λ p. each (λ c. runs p c (λ x. is (D x c) p) none 0 L) (sort ltb fish))) (sort-same t u fish d h)
-    ∙ ap (λ (f : ℕ → List Edge). each f (sort (before u) fish)) (fun-ext (λ p. ap (λ (f : ℕ → List Edge). each f (sort ltb fish)) (fun-ext (λ c. runs-same p c (λ x. is (D x c) p) (λ x. is (E x c) p) none 0 L (λ y l. ap (λ (F : Par). is (F c) p) (s y (omega arith)))))))
+    ∙ ap (λ (f : ℕ → List Edge). each f (sort (before u) fish)) (fun-ext (λ p. ap (λ (f : ℕ → List Edge). each f (sort ltb fish))
+    (fun-ext (λ c. runs-same p c (λ x. is (D x c) p) (λ x. is (E x c) p) none 0 L (λ y l. ap (λ (F : Par). is (F c) p) (s y (omega arith)))))))
 
 -- ---- every written edge
 

@@ -3,15 +3,15 @@ use mathlib.Core.Path.{_≡_, refl, sym, ap, ap₂, _∙_}
 use mathlib.Core.Bool.{Bool, true, false}
 use mathlib.Core.List.{List, [], _∷_}
 use mathlib.Core.Option.{Option, none, some}
-use mathlib.Core.Logic.{_⊎_, inl, inr, ⊎-elim}
-use Prim.Native.Nat.{ℕ, _<_, _≤_}
+use mathlib.Core.Logic.{⊎-elim}
+use Prim.Native.Nat.{ℕ, _<_}
 use native.Mathlib.Omega.{arith}
 use Rattle.meaning.specs.Words.{mem, filter}
 use Rattle.meaning.specs.Rows.{Site, Mutation, Tables, Record, births, nodeOf, timeOf, posOf, recordOf, tablesOf}
 use Rattle.meaning.specs.Forest.{Par, Ages, Rules, parentIn, reached, low, drawn}
 use Rattle.meaning.specs.Clean.{moved, standsAt, forestAt, lowAt, kept, clean, cleaned}
 use Rattle.laws.specs.Bools.{clash, truth}
-use Rattle.laws.specs.Facts.{In, All, CleanOk}
+use Rattle.laws.specs.Facts.{In, CleanOk}
 use Rattle.forest.specs.Lines.{Above, here}
 use Rattle.forest.specs.TreeLaws.{reached-of, of-reached}
 use Rattle.forest.specs.Lowest.{low-of}
@@ -21,7 +21,7 @@ use Rattle.forest.specs.Guest.{guest-stands, guest-forest, guest-low}
 use Rattle.forest.specs.Mrca.{Mrca, mrca-stands, mrca-kept, mrca-none}
 use Rattle.history.specs.Lists.{all-filter, all-to}
 use Rattle.history.specs.Moved.{moved-same}
-use Rattle.history.specs.Same.{Same, same-clean}
+use Rattle.history.specs.Same.{same-clean}
 use Rattle.history.specs.Cleaned.{good-aged, good-nodes, rule-at, drawn-at, reached-old, stands-kept, clean-parent}
 
 unfoldable pub reachedAt : Record → List ℕ → ℕ → ℕ → Bool
@@ -37,7 +37,8 @@ unfolding moved filter
 moved-reached pos r G h [] = refl
 moved-reached pos r G h (m ∷ l) = go (r (pos (m .site)) (m .node)) refl (G (pos (m .site)) (m .node)) refl (moved-reached pos r G h l)
   where
-    go : (t : Bool) → r (pos (m .site)) (m .node) ≡ t → (o : Option ℕ) → G (pos (m .site)) (m .node) ≡ o → moved pos G (filter (on-reached pos r) l) ≡ moved pos G l → moved pos G (filter (on-reached pos r) (m ∷ l)) ≡ moved pos G (m ∷ l)
+    go : (t : Bool) → r (pos (m .site)) (m .node) ≡ t → (o : Option ℕ) → G (pos (m .site)) (m .node) ≡ o → moved pos G (filter (on-reached pos r) l) ≡ moved pos G l →
+        moved pos G (filter (on-reached pos r) (m ∷ l)) ≡ moved pos G (m ∷ l)
     go true e none f ih = rw (e, filter) (rw (f, moved) ih)
     go true e (some w) f ih = rw (e, filter) (rw (f, moved) (ap (λ (k : List Mutation). record { site = m .site; node = w; derived = m .derived } ∷ k) ih))
     go false e o f ih = rw (e, filter) (rw (h (pos (m .site)) (m .node) e, moved) ih)
@@ -79,7 +80,8 @@ module _ (rule : Rules) (pr : Profile rule) (S : List ℕ) where
         go : (o : Option ℕ) → low (births (R .nodes)) P (reached P S) (rule (births (R .nodes)) P S) Ages u ≡ o → o ≡ none
         go none e = refl
         go (some w) e = absurd (clash
-            (of-reached P (timeOf (R .nodes)) (good-aged R (ok .good) x) S u (low-reached (rule-at rule pr R S ok x) (low-of P (timeOf (R .nodes)) (good-aged R (ok .good) x) (births (R .nodes)) (good-nodes R (ok .good) x) S (rule (births (R .nodes)) P S) (rule-at rule pr R S ok x) Ages w u e)))
+            (of-reached P (timeOf (R .nodes)) (good-aged R (ok .good) x) S u (low-reached (rule-at rule pr R S ok x) (low-of P (timeOf (R .nodes)) (good-aged R (ok .good) x)
+            (births (R .nodes)) (good-nodes R (ok .good) x) S (rule (births (R .nodes)) P S) (rule-at rule pr R S ok x) Ages w u e)))
             k)
 
   module _ (A B : Record) (h : Guests S A B) where
@@ -89,18 +91,25 @@ module _ (rule : Rules) (pr : Profile rule) (S : List ℕ) where
     module _ (x : ℕ) (l : x < B .len) where
       same-stands : standsAt rule A S x ≡ standsAt rule B S x
       unfolding standsAt reachedAt
-      same-stands = guest-stands rule pr (parentIn (A .edges) x) (parentIn (B .edges) x) (timeOf (A .nodes)) (timeOf (B .nodes)) (good-aged A (h .ok-A .good) x) (good-aged B (h .ok-B .good) x) (births (A .nodes)) (births (B .nodes)) (good-nodes A (h .ok-A .good) x) (good-nodes B (h .ok-B .good) x) S (h .reached-same x l) (h .parents x l)
+      same-stands = guest-stands rule pr (parentIn (A .edges) x) (parentIn (B .edges) x) (timeOf (A .nodes)) (timeOf (B .nodes)) (good-aged A (h .ok-A .good) x)
+          (good-aged B (h .ok-B .good) x) (births (A .nodes)) (births (B .nodes)) (good-nodes A (h .ok-A .good) x) (good-nodes B (h .ok-B .good) x) S (h .reached-same x l)
+          (h .parents x l)
 
       same-forest : forestAt rule A S x ≡ forestAt rule B S x
       unfolding forestAt standsAt reachedAt
-      same-forest = guest-forest rule pr (parentIn (A .edges) x) (parentIn (B .edges) x) (timeOf (A .nodes)) (timeOf (B .nodes)) (good-aged A (h .ok-A .good) x) (good-aged B (h .ok-B .good) x) (births (A .nodes)) (births (B .nodes)) (good-nodes A (h .ok-A .good) x) (good-nodes B (h .ok-B .good) x) S (h .reached-same x l) (h .parents x l)
+      same-forest = guest-forest rule pr (parentIn (A .edges) x) (parentIn (B .edges) x) (timeOf (A .nodes)) (timeOf (B .nodes)) (good-aged A (h .ok-A .good) x)
+          (good-aged B (h .ok-B .good) x) (births (A .nodes)) (births (B .nodes)) (good-nodes A (h .ok-A .good) x) (good-nodes B (h .ok-B .good) x) S (h .reached-same x l)
+          (h .parents x l)
 
       low-reached-same : (u : ℕ) → reachedAt A S x u ≡ true → lowAt rule A S x u ≡ lowAt rule B S x u
       unfolding lowAt standsAt reachedAt
-      low-reached-same u k = guest-low rule pr (parentIn (A .edges) x) (parentIn (B .edges) x) (timeOf (A .nodes)) (timeOf (B .nodes)) (good-aged A (h .ok-A .good) x) (good-aged B (h .ok-B .good) x) (births (A .nodes)) (births (B .nodes)) (good-nodes A (h .ok-A .good) x) (good-nodes B (h .ok-B .good) x) S (h .reached-same x l) (h .parents x l) u (omega (arith, h .ok-A .good .young u)) (omega (arith, h .ok-B .good .young u)) k
+      low-reached-same u k = guest-low rule pr (parentIn (A .edges) x) (parentIn (B .edges) x) (timeOf (A .nodes)) (timeOf (B .nodes)) (good-aged A (h .ok-A .good) x)
+          (good-aged B (h .ok-B .good) x) (births (A .nodes)) (births (B .nodes)) (good-nodes A (h .ok-A .good) x) (good-nodes B (h .ok-B .good) x) S (h .reached-same x l)
+          (h .parents x l) u (omega (arith, h .ok-A .good .young u)) (omega (arith, h .ok-B .good .young u)) k
 
       same-low : (u : ℕ) → lowAt rule A S x u ≡ lowAt rule B S x u
-      same-low u = ⊎-elim (low-reached-same u) (λ (k : reachedAt A S x u ≡ false). low-none A (h .ok-A) x u k ∙ sym (low-none B (h .ok-B) x u (sym (h .reached-same x l u) ∙ k))) (truth (reachedAt A S x u))
+      same-low u = ⊎-elim (low-reached-same u)
+          (λ (k : reachedAt A S x u ≡ false). low-none A (h .ok-A) x u k ∙ sym (low-none B (h .ok-B) x u (sym (h .reached-same x l u) ∙ k))) (truth (reachedAt A S x u))
 
       born : (b : ℕ) → standsAt rule B S x b ≡ true → (mem b (births (A .nodes)) ≡ true) × (mem b (births (B .nodes)) ≡ true) × (nodeOf (A .nodes) b ≡ nodeOf (B .nodes) b)
       born b k =
@@ -146,10 +155,12 @@ module _ (rule : Rules) (pr : Profile rule) (S : List ℕ) where
     pub common-kept : (m : ℕ) → Mrca (parentIn (R .edges) x) s t m → (mem m (kept rule R S) ≡ true) × Mrca (parentIn (C .edges) x) s t m
     common-kept m a =
         let q : parentIn (C .edges) x ≡ drawn (parentIn (R .edges) x) (rule (births (R .nodes)) (parentIn (R .edges) x) S) = clean-parent rule pr R S ok x l in (
-          stands-kept rule pr R S ok x m l (mrca-stands (parentIn (R .edges) x) _ _ (timeOf (R .nodes)) (good-aged R (ok .good) x .ranked) (In S) (rule-at rule pr R S ok x) (drawn-at rule pr R S ok x) s t ms mt m a),
+          stands-kept rule pr R S ok x m l (mrca-stands (parentIn (R .edges) x) _ _ (timeOf (R .nodes)) (good-aged R (ok .good) x .ranked) (In S) (rule-at rule pr R S ok x)
+              (drawn-at rule pr R S ok x) s t ms mt m a),
           rw q (mrca-kept (parentIn (R .edges) x) _ _ (timeOf (R .nodes)) (good-aged R (ok .good) x .ranked) (In S) (rule-at rule pr R S ok x) (drawn-at rule pr R S ok x) s t ms mt m a),
         )
 
     -- where they have none, the output has none
     pub common-none : ((a : ℕ) → Above (parentIn (R .edges) x) a s → Above (parentIn (R .edges) x) a t → ⊥) → (a : ℕ) → Above (parentIn (C .edges) x) a s → Above (parentIn (C .edges) x) a t → ⊥
-    common-none h = rw (clean-parent rule pr R S ok x l) (mrca-none (parentIn (R .edges) x) _ _ (timeOf (R .nodes)) (good-aged R (ok .good) x .ranked) (In S) (rule-at rule pr R S ok x) (drawn-at rule pr R S ok x) s t ms mt h)
+    common-none h = rw (clean-parent rule pr R S ok x l)
+        (mrca-none (parentIn (R .edges) x) _ _ (timeOf (R .nodes)) (good-aged R (ok .good) x .ranked) (In S) (rule-at rule pr R S ok x) (drawn-at rule pr R S ok x) s t ms mt h)

@@ -1,16 +1,16 @@
 -- A joined record, read again: its nodes, and it is good again.
-use mathlib.Core.Path.{_≡_, refl, sym, ap, _∙_}
-use mathlib.Core.Bool.{Bool, true, false}
+use mathlib.Core.Path.{_≡_, sym, ap, _∙_}
+use mathlib.Core.Bool.{true, false}
 use mathlib.Core.List.{List, _++_}
 use mathlib.Core.Logic.{_⊎_, inl, inr, ⊎-elim}
 use Prim.Native.Nat.{ℕ, _<_}
 use native.Mathlib.Omega.{arith}
 use lib.ListN.{length}
 use Rattle.meaning.specs.Words.{mem}
-use Rattle.meaning.specs.Rows.{Edge, Mutation, Record, births, nodeOf, timeOf, posOf}
+use Rattle.meaning.specs.Rows.{Edge, Mutation, Record, births, timeOf, posOf}
 use Rattle.meaning.specs.Forest.{Ages}
 use Rattle.meaning.specs.Join.{Batch, keyed, join}
-use Rattle.laws.specs.Bools.{truth, not-true}
+use Rattle.laws.specs.Bools.{truth}
 use Rattle.laws.specs.Members.{mem-left, mem-right}
 use Rattle.laws.specs.Facts.{Distinct, Any, All, Cov, Good, Closed, JoinOk}
 use Rattle.history.specs.Lists.{any-split, any-sort, all-app, all-to, all-sort, distinct-join}
@@ -45,7 +45,11 @@ module _ (R : Record) (B : Batch) where
     unfolding join
     edges-closed = all-sort (keyed (R .nodes ++ B .nodes)) (R .edges ++ B .edges) (all-app
         (all-to (λ e p. (mem-left (e .parent) NR NB (p .0), mem-left (e .child) NR NB (p .1))) (c .edges-in))
-        (all-to (λ e p. (⊎-elim (λ (i : mem (e .parent) NB ≡ true). mem-right (e .parent) NR NB i) (λ (i : mem (e .parent) NR ≡ true). mem-left (e .parent) NR NB i) (p .0), mem-right (e .child) NR NB (p .1))) (j .rows-in)))
+        (all-to (λ e p. (
+          ⊎-elim (λ (i : mem (e .parent) NB ≡ true). mem-right (e .parent) NR NB i) (λ (i : mem (e .parent) NR ≡ true). mem-left (e .parent) NR NB i)
+              (p .0),
+          mem-right (e .child) NR NB (p .1),
+        )) (j .rows-in)))
 
     muts-closed : All (λ (m : Mutation). mem (m .node) (NR ++ NB) ≡ true) (join R B .muts)
     unfolding join

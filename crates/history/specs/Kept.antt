@@ -1,10 +1,10 @@
 -- The fish that a cleaning keeps: the samples, then every other that stands somewhere, each once.
-use mathlib.Core.Path.{_≡_, refl, sym, ap, _∙_}
+use mathlib.Core.Path.{_≡_, sym, _∙_}
 use mathlib.Core.Bool.{Bool, true, false, not}
-use mathlib.Core.List.{List, [], _∷_, _++_}
+use mathlib.Core.List.{List}
 use mathlib.Core.Logic.{_⊎_, inl, inr, ⊎-elim}
 use Prim.Native.Nat.{ℕ, _<_}
-use Rattle.meaning.specs.Words.{and, mem, filter, anyBelow, sort}
+use Rattle.meaning.specs.Words.{and, mem, filter, anyBelow}
 use Rattle.meaning.specs.Rows.{Record, births, timeOf}
 use Rattle.meaning.specs.Forest.{Rules}
 use Rattle.meaning.specs.Clean.{before, standsAt, others, kept}

@@ -9,6 +9,7 @@ pub mod Kept
 pub mod Same
 pub mod Cleaned
 pub mod Joined
+pub mod Fits
 pub mod Step
 pub mod Tidy
 pub mod Run
@@ -18,3 +19,4 @@ pub mod Pairs
 pub mod AtSite
 pub mod Alleles
 pub mod Guests
+pub mod Witness

@@ -1,11 +1,11 @@
 -- Lists: some or every member of a list made by joining, by each, by sorting or by filtering.
-use mathlib.Core.Path.{_≡_, refl, sym, ap, _∙_}
+use mathlib.Core.Path.{_≡_, refl, ap}
 use mathlib.Core.Bool.{Bool, true, false}
 use mathlib.Core.List.{List, [], _∷_, _++_, map}
 use mathlib.Core.Logic.{_⊎_, inl, inr, ⊎-elim}
 use Prim.Native.Nat.{ℕ}
 use Rattle.meaning.specs.Words.{mem, each, insert, sort, filter}
-use Rattle.laws.specs.Bools.{clash, truth, not-true}
+use Rattle.laws.specs.Bools.{clash, truth}
 use Rattle.laws.specs.Members.{mem-nil, mem-here, mem-there, mem-cases, mem-split}
 use Rattle.laws.specs.Facts.{Distinct, nil, cons, Any, now, later, All, done, also}
 
@@ -141,7 +141,8 @@ module _ (f : ℕ → Bool) where
   filter-of b (a ∷ l) h = go (f a) refl (λ k. filter-of b l k)
     where
       go : (t : Bool) → f a ≡ t → (mem b (filter f l) ≡ true → (mem b l ≡ true) × (f b ≡ true)) → (mem b (a ∷ l) ≡ true) × (f b ≡ true)
-      go true e ih = ⊎-elim (λ (q : b ≡ a). (mem-here b a l q, rw q e)) (λ (k : mem b (filter f l) ≡ true). let r : _ = ih k in (mem-there b a l (r .0), r .1)) (mem-cases b a (filter f l) (rw (e, filter) at h))
+      go true e ih = ⊎-elim (λ (q : b ≡ a). (mem-here b a l q, rw q e)) (λ (k : mem b (filter f l) ≡ true). let r : _ = ih k in (mem-there b a l (r .0), r .1))
+          (mem-cases b a (filter f l) (rw (e, filter) at h))
       go false e ih = let r : _ = ih (rw (e, filter) at h) in (mem-there b a l (r .0), r .1)
 
   pub of-filter : (b : ℕ) (l : List ℕ) → mem b l ≡ true → f b ≡ true → mem b (filter f l) ≡ true
@@ -167,7 +168,9 @@ module _ (f : ℕ → Bool) where
 pub distinct-join : (a b : List ℕ) → Distinct a → Distinct b → ((c : ℕ) → mem c a ≡ true → mem c b ≡ true → ⊥) → Distinct (a ++ b)
 distinct-join [] b nil e h = e
 distinct-join (c ∷ a) b (cons n d) e h =
-    cons (⊎-elim (λ (m : mem c (a ++ b) ≡ true). absurd (⊎-elim (λ (i : mem c a ≡ true). clash i n) (λ (i : mem c b ≡ true). h c (mem-here c c a refl) i) (mem-split c a b m))) (λ m. m) (truth (mem c (a ++ b))))
+    cons (⊎-elim
+    (λ (m : mem c (a ++ b) ≡ true). absurd (⊎-elim (λ (i : mem c a ≡ true). clash i n) (λ (i : mem c b ≡ true). h c (mem-here c c a refl) i) (mem-split c a b m)))
+    (λ m. m) (truth (mem c (a ++ b))))
     (distinct-join a b d e (λ k i j. h k (mem-there k c a i) j))
 
 pub append-nil : {A : Type 0} (l : List A) → l ++ [] ≡ l

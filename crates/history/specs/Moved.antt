@@ -1,5 +1,5 @@
 -- Mutations moved once or twice, and by site.
-use mathlib.Core.Path.{_≡_, refl, sym, ap, ap₂, _∙_}
+use mathlib.Core.Path.{_≡_, refl, ap, ap₂, _∙_}
 use mathlib.Core.Bool.{Bool, true, false}
 use mathlib.Core.List.{List, [], _∷_, _++_}
 use mathlib.Core.Option.{Option, none, some}
@@ -28,7 +28,8 @@ module _ (pos : ℕ → ℕ) where
     moved-site i [] = refl
     moved-site i (m ∷ l) = go (eqb (m .site) i) refl (G (pos (m .site)) (m .node)) refl (moved-site i l)
       where
-        go : (t : Bool) → eqb (m .site) i ≡ t → (o : Option ℕ) → G (pos (m .site)) (m .node) ≡ o → moved pos G (ofSite i l) ≡ ofSite i (moved pos G l) → moved pos G (ofSite i (m ∷ l)) ≡ ofSite i (moved pos G (m ∷ l))
+        go : (t : Bool) → eqb (m .site) i ≡ t → (o : Option ℕ) → G (pos (m .site)) (m .node) ≡ o → moved pos G (ofSite i l) ≡ ofSite i (moved pos G l) →
+            moved pos G (ofSite i (m ∷ l)) ≡ ofSite i (moved pos G (m ∷ l))
         go true e none f ih = rw (e, filter) (rw (f, moved) ih)
         go true e (some w) f ih = rw (e, filter) (rw (f, moved) (rw (e, filter) (ap (λ (l : List Mutation). record { site = m .site; node = w; derived = m .derived } ∷ l) ih)))
         go false e none f ih = rw (e, filter) (rw (f, moved) ih)
@@ -37,7 +38,8 @@ module _ (pos : ℕ → ℕ) where
     pub moved-by : (a b : List Mutation) (i k : ℕ) → moved pos G (bySite a b i k) ≡ bySite (moved pos G a) (moved pos G b) i k
     unfolding bySite moved
     moved-by a b i zero = refl
-    moved-by a b i (suc k) = moved-app (ofSite i a) (ofSite i b ++ bySite a b (suc i) k) ∙ ap₂ _++_ (moved-site i a) (moved-app (ofSite i b) (bySite a b (suc i) k) ∙ ap₂ _++_ (moved-site i b) (moved-by a b (suc i) k))
+    moved-by a b i (suc k) = moved-app (ofSite i a) (ofSite i b ++ bySite a b (suc i) k) ∙ ap₂ _++_ (moved-site i a)
+        (moved-app (ofSite i b) (bySite a b (suc i) k) ∙ ap₂ _++_ (moved-site i b) (moved-by a b (suc i) k))
 
   pub moved-same : (G H : ℕ → ℕ → Option ℕ) (l : List Mutation) → All (λ m. G (pos (m .site)) (m .node) ≡ H (pos (m .site)) (m .node)) l → moved pos G l ≡ moved pos H l
   unfolding moved
@@ -61,7 +63,8 @@ module _ (pos : ℕ → ℕ) where
       mv : (w : ℕ) → List Mutation → List Mutation
       mv w r = record { site = m .site; node = w; derived = m .derived } ∷ r
 
-      kept : (w : ℕ) → F (pos (m .site)) (m .node) ≡ some w → (o : Option ℕ) → H (pos (m .site)) (m .node) ≡ o → moved pos G (moved pos F l) ≡ moved pos H l → moved pos G (mv w (moved pos F l)) ≡ moved pos H (m ∷ l)
+      kept : (w : ℕ) → F (pos (m .site)) (m .node) ≡ some w → (o : Option ℕ) → H (pos (m .site)) (m .node) ≡ o → moved pos G (moved pos F l) ≡ moved pos H l →
+          moved pos G (mv w (moved pos F l)) ≡ moved pos H (m ∷ l)
       kept w e none f ih = rw (f, moved) (rw (t .stays w e ∙ f, moved) ih)
       kept w e (some v) f ih = rw (f, moved) (rw (t .stays w e ∙ f, moved) (ap (mv v) ih))
 

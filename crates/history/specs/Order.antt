@@ -1,15 +1,17 @@
--- Order: what "compared in that order" makes of lists of numbers, nodes by (time, birth), and sorted lists known by their members.
+-- Order: "compared in that order" for lists of numbers, edges by edge key, nodes by (time, birth), and sorted lists known by their members.
 use mathlib.Core.Path.{_≡_, refl, sym, ap, ap₂, _∙_}
 use mathlib.Core.Bool.{Bool, true, false}
 use mathlib.Core.List.{List, [], _∷_}
-use mathlib.Core.Logic.{_⊎_, inl, inr, ⊎-elim}
-use Prim.Native.Nat.{ℕ, suc, _<_, _≤_}
+use mathlib.Core.Logic.{⊎-elim}
+use Prim.Native.Nat.{ℕ, _<_}
 use native.Mathlib.Omega.{arith}
 use lib.Dec.{eqb, ltb}
 use lib.ListN.{length}
-use borrow.Author.Tests.{eqb-true, eqb-false, eq-eqb, ne-eqb, lt-ltb, le-ltb, ltb-true, ltb-false}
+use borrow.Author.Tests.{eqb-true, eqb-false, eq-eqb, lt-ltb, le-ltb, ltb-true, ltb-false}
 use Rattle.meaning.specs.Words.{at, mem, lex, insert, sort}
+use Rattle.meaning.specs.Rows.{Node, Edge, timeOf, edgeKey}
 use Rattle.meaning.specs.Clean.{before}
+use Rattle.meaning.specs.Join.{keyed}
 use Rattle.laws.specs.Bools.{clash, truth, eq?, bool-ext, not-true}
 use Rattle.laws.specs.Members.{mem-nil, mem-here, mem-there, mem-cases}
 use Rattle.laws.specs.Facts.{Distinct, nil, cons}
@@ -70,6 +72,22 @@ lex-apart (a ∷ l) (b ∷ m) q n h = go (ltb b a) refl (eqb a b) refl (λ x y. 
         of-less (b ∷ m) (a ∷ l) (tied (sym s) (less-of m l (ih (λ (x : l ≡ m). n (ap₂ _∷_ s x)) (not-true (lex l m) (λ k. clash (of-less (a ∷ l) (b ∷ m) (tied s (less-of l m k))) h)))))
     go false p false r ih = absurd (eqb-false a b r (omega (arith, ltb-false b a p, ltb-false a b not-sooner)))
 
+-- ---- edges by edge key
+
+module _ (N : List Node) where
+  pub keyed-irrefl : (e : Edge) → keyed N e e ≡ false
+  unfolding keyed
+  keyed-irrefl e = lex-irrefl (edgeKey (timeOf N) e)
+
+  pub keyed-trans : (c d e : Edge) → keyed N c d ≡ true → keyed N d e ≡ true → keyed N c e ≡ true
+  unfolding keyed
+  keyed-trans c d e g h = lex-trans (edgeKey (timeOf N) c) (edgeKey (timeOf N) d) (edgeKey (timeOf N) e) g h
+
+  -- edges with different keys are one below the other
+  pub keyed-apart : (d e : Edge) → (edgeKey (timeOf N) d ≡ edgeKey (timeOf N) e → ⊥) → keyed N d e ≡ false → keyed N e d ≡ true
+  unfolding keyed edgeKey
+  keyed-apart d e n h = lex-apart (edgeKey (timeOf N) d) (edgeKey (timeOf N) e) refl n h
+
 -- ---- sorted lists of numbers
 
 -- a strict order that tells any two numbers apart
@@ -118,7 +136,8 @@ module _ (lt : ℕ → ℕ → Bool) (o : Order lt) where
 
       go : (t : Bool) → lt a c ≡ t → (mem a l ≡ false → Sorted lt (insert lt a l)) → Sorted lt (insert lt a (c ∷ l))
       go true e ih = rw (e, insert) (least (λ b m. ⊎-elim (λ (q : b ≡ c). rw q e) (λ (k : mem b l ≡ true). o .trans a c b e (f b k)) (mem-cases b c l m)) (least f s))
-      go false e ih = rw (e, insert) (least (λ b m. ⊎-elim (λ (q : b ≡ a). rw q (o .total a c apart e)) (λ (k : mem b l ≡ true). f b k) (mem-cases b a l (sym (mem-insert lt b a l) ∙ m))) (ih tail-free))
+      go false e ih = rw (e, insert)
+          (least (λ b m. ⊎-elim (λ (q : b ≡ a). rw q (o .total a c apart e)) (λ (k : mem b l ≡ true). f b k) (mem-cases b a l (sym (mem-insert lt b a l) ∙ m))) (ih tail-free))
 
   pub sort-sorted : (l : List ℕ) → Distinct l → Sorted lt (sort lt l)
   unfolding sort
@@ -133,7 +152,8 @@ module _ (lt : ℕ → ℕ → Bool) (o : Order lt) where
   sorted-unique (a ∷ l) (b ∷ m) (least f s) (least g t) h = ap₂ _∷_ heads (sorted-unique l m s t tails)
     where
       heads : a ≡ b
-      heads = ⊎-elim (λ q. q) (λ (k : mem a m ≡ true). ⊎-elim (λ q. sym q) (λ (i : mem b l ≡ true). absurd (clash (o .trans a b a (f b i) (g a k)) (o .irrefl a))) (mem-cases b a l (h b ∙ mem-here b b m refl))) (mem-cases a b m (sym (h a) ∙ mem-here a a l refl))
+      heads = ⊎-elim (λ q. q) (λ (k : mem a m ≡ true). ⊎-elim (λ q. sym q) (λ (i : mem b l ≡ true). absurd (clash (o .trans a b a (f b i) (g a k)) (o .irrefl a)))
+          (mem-cases b a l (h b ∙ mem-here b b m refl))) (mem-cases a b m (sym (h a) ∙ mem-here a a l refl))
 
       tails : (c : ℕ) → mem c l ≡ mem c m
       tails c = bool-ext

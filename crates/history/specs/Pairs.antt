@@ -32,7 +32,8 @@ pairs-at {Q} d (m ∷ l) h = with-all (every l (λ k a. h 0 (suc k) (omega arith
     every [] f = done
     every (a ∷ n) f = also (f 0 (omega arith)) (every n (λ k b. f (suc k) (omega arith)))
 
-module _ (pos : ℕ → ℕ) (G : ℕ → ℕ → Option ℕ) (Q W : Mutation → Mutation → Type 0) (O : Mutation → Type 0) (h : (m n : Mutation) (w v : ℕ) → O m → Q m n → G (pos (m .site)) (m .node) ≡ some w → G (pos (n .site)) (n .node) ≡ some v → W (put m w) (put n v)) where
+module _ (pos : ℕ → ℕ) (G : ℕ → ℕ → Option ℕ) (Q W : Mutation → Mutation → Type 0) (O : Mutation → Type 0)
+    (h : (m n : Mutation) (w v : ℕ) → O m → Q m n → G (pos (m .site)) (m .node) ≡ some w → G (pos (n .site)) (n .node) ≡ some v → W (put m w) (put n v)) where
   moved-each : (m : Mutation) (w : ℕ) → O m → G (pos (m .site)) (m .node) ≡ some w → (l : List Mutation) → All (Q m) l → All (W (put m w)) (moved pos G l)
   unfolding moved
   moved-each m w o e [] done = done

@@ -1,11 +1,11 @@
 -- Row numbers and birth numbers: the columns of a record mean that record.
 use mathlib.Core.Path.{_≡_, refl, sym, ap, _∙_}
-use mathlib.Core.Bool.{Bool, true}
+use mathlib.Core.Bool.{true}
 use mathlib.Core.List.{List, [], _∷_, map}
 use Prim.Native.Nat.{ℕ, zero, suc}
 use lib.ListN.{length}
 use Rattle.meaning.specs.Words.{at, mem, rows, rowsFrom, indexOf}
-use Rattle.meaning.specs.Rows.{NodeColumns, EdgeColumns, SiteColumns, MutationColumns, Tables, Node, Edge, Site, Mutation, Record, births, nodesOf, edgesOf, sitesOf, mutsOf, recordOf, tablesOf}
+use Rattle.meaning.specs.Rows.{NodeColumns, EdgeColumns, SiteColumns, MutationColumns, Node, Edge, Site, Mutation, Record, births, nodesOf, edgesOf, sitesOf, mutsOf, recordOf, tablesOf}
 use Rattle.laws.specs.Members.{index-at}
 use Rattle.laws.specs.Facts.{All, done, also, Closed}
 
@@ -28,7 +28,8 @@ nodeColumns l = record { time = map (λ (n : Node). n .time) l; birth = births l
 nodes-back : (l : List Node) → nodesOf (nodeColumns l) ≡ l
 unfolding nodesOf births rows
 nodes-back [] = refl
-nodes-back (n ∷ l) = rows-cons (λ i. record { time = at (nodeColumns (n ∷ l) .time) i; birth = at (nodeColumns (n ∷ l) .birth) i }) (length (map (λ (n : Node). n .time) l)) ∙ ap (λ r. n ∷ r) (nodes-back l)
+nodes-back (n ∷ l) = rows-cons (λ i. record { time = at (nodeColumns (n ∷ l) .time) i; birth = at (nodeColumns (n ∷ l) .birth) i }) (length (map (λ (n : Node). n .time) l))
+    ∙ ap (λ r. n ∷ r) (nodes-back l)
 
 abbrev siteColumns : List Site → SiteColumns
 siteColumns l = record { position = map (λ (s : Site). s .pos) l; ancestral = map (λ (s : Site). s .state) l }
@@ -36,7 +37,8 @@ siteColumns l = record { position = map (λ (s : Site). s .pos) l; ancestral = m
 sites-back : (l : List Site) → sitesOf (siteColumns l) ≡ l
 unfolding sitesOf rows
 sites-back [] = refl
-sites-back (s ∷ l) = rows-cons (λ i. record { pos = at (siteColumns (s ∷ l) .position) i; state = at (siteColumns (s ∷ l) .ancestral) i }) (length (map (λ (s : Site). s .pos) l)) ∙ ap (λ r. s ∷ r) (sites-back l)
+sites-back (s ∷ l) = rows-cons (λ i. record { pos = at (siteColumns (s ∷ l) .position) i; state = at (siteColumns (s ∷ l) .ancestral) i })
+    (length (map (λ (s : Site). s .pos) l)) ∙ ap (λ r. s ∷ r) (sites-back l)
 
 module _ (N : List ℕ) where
   abbrev row : ℕ → ℕ

@@ -1,13 +1,13 @@
 -- Demand 3 for records: cleanings in between do not change the last cleaned record, for any run of batches and cleanings.
 use mathlib.Core.Path.{_≡_, refl, sym, ap, _∙_}
-use mathlib.Core.Bool.{Bool, true, false}
-use mathlib.Core.List.{List, [], _∷_, _++_}
+use mathlib.Core.Bool.{Bool, true}
+use mathlib.Core.List.{List, [], _∷_}
 use mathlib.Core.Logic.{_⊎_, inl, inr, ⊎-elim}
 use Prim.Native.Nat.{ℕ}
 use Rattle.meaning.specs.Words.{or, mem, filter}
 use Rattle.meaning.specs.Rows.{Record, births}
 use Rattle.meaning.specs.Forest.{Rules, stands}
-use Rattle.meaning.specs.Clean.{kept, clean}
+use Rattle.meaning.specs.Clean.{clean}
 use Rattle.meaning.specs.Join.{Batch, join}
 use Rattle.laws.specs.Bools.{or-of, or-left, or-right}
 use Rattle.laws.specs.Members.{mem-split}
@@ -16,7 +16,8 @@ use Rattle.forest.specs.Profile.{Profile, stands-profile, line, line-profile}
 use Rattle.history.specs.Lists.{filter-of, of-filter, filter-distinct}
 use Rattle.history.specs.Cleaned.{clean-births, kept-in}
 use Rattle.history.specs.Joined.{join-births}
-use Rattle.history.specs.Step.{Fits, one-step}
+use Rattle.history.specs.Fits.{Fits}
+use Rattle.history.specs.Step.{one-step}
 use Rattle.history.specs.Tidy.{tidy-law}
 
 -- a batch is joined, or the record is cleaned for a list of samples
@@ -52,9 +53,21 @@ module _ (rule : Rules) where
   module _ (pr : Profile rule) where
     -- the records agree for every list of fish that are named later
     abbrev Agree : List Move → List ℕ → Record → Record → Type 0
-    Agree l S Q P = (F : List ℕ) → Distinct F → ((b : ℕ) → In F b → mem b (births (Q .nodes)) ≡ true) → ((b : ℕ) → In F b → mem b (births (P .nodes)) ≡ true) → ((b : ℕ) → In F b → Names l S b) → clean rule F Q ≡ clean rule F P
+    Agree l S Q P =
+        (F : List ℕ) → Distinct F →
+        ((b : ℕ) → In F b → mem b (births (Q .nodes)) ≡ true) →
+        ((b : ℕ) → In F b → mem b (births (P .nodes)) ≡ true) →
+        ((b : ℕ) → In F b → Names l S b) →
+        clean rule F Q ≡ clean rule F P
 
-    module _ (Q P : Record) (B : Batch) (l : List Move) (S : List ℕ) (gQ : Good Q) (gP : Good P) (jQ : JoinOk Q B) (jP : JoinOk P B) (ag : Agree (batch B ∷ l) S Q P) (F : List ℕ) (dF : Distinct F) (inQ : (b : ℕ) → In F b → mem b (births (join Q B .nodes)) ≡ true) (inP : (b : ℕ) → In F b → mem b (births (join P B .nodes)) ≡ true) (nm : (b : ℕ) → In F b → Names l S b) where
+    module _
+        (Q P : Record) (B : Batch) (l : List Move) (S : List ℕ)
+        (gQ : Good Q) (gP : Good P) (jQ : JoinOk Q B) (jP : JoinOk P B)
+        (ag : Agree (batch B ∷ l) S Q P)
+        (F : List ℕ) (dF : Distinct F)
+        (inQ : (b : ℕ) → In F b → mem b (births (join Q B .nodes)) ≡ true)
+        (inP : (b : ℕ) → In F b → mem b (births (join P B .nodes)) ≡ true)
+        (nm : (b : ℕ) → In F b → Names l S b) where
       abbrev NB : List ℕ
       NB = births (B .nodes)
 
@@ -88,7 +101,8 @@ module _ (rule : Rules) where
 
       -- an old fish of Q that is named is in E
       E-of : (b : ℕ) → (mem b (parents (B .edges)) ≡ true) ⊎ (mem b F ≡ true) → mem b (births (Q .nodes)) ≡ true → In E b
-      E-of b p m = of-filter named b (births (Q .nodes)) m (⊎-elim (λ (i : mem b (parents (B .edges)) ≡ true). or-left (mem b F) i) (λ (i : mem b F ≡ true). or-right (mem b (parents (B .edges))) (mem b F) i) p)
+      E-of b p m = of-filter named b (births (Q .nodes)) m
+          (⊎-elim (λ (i : mem b (parents (B .edges)) ≡ true). or-left (mem b F) i) (λ (i : mem b F ≡ true). or-right (mem b (parents (B .edges))) (mem b F) i) p)
 
       E-parent : (q : ℕ) → mem q (parents (B .edges)) ≡ true → (mem q NB ≡ true) ⊎ In E q
       E-parent q p = ⊎-elim (λ n. inl n) (λ (m : mem q (births (Q .nodes)) ≡ true). inr (E-of q (inl p) m)) (jQ .known q p)

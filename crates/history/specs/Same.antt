@@ -1,11 +1,11 @@
 -- Two records that give the encoding the same are cleaned to the same record.
-use mathlib.Core.Path.{_≡_, refl, sym, ap, _∙_}
-use mathlib.Core.Bool.{Bool, true, false, not}
-use mathlib.Core.List.{List, [], _∷_, _++_, map}
-use mathlib.Core.Logic.{_⊎_, inl, inr, ⊎-elim}
+use mathlib.Core.Path.{_≡_, sym, ap, _∙_}
+use mathlib.Core.Bool.{Bool, true, not}
+use mathlib.Core.List.{List, _++_, map}
+use mathlib.Core.Logic.{⊎-elim}
 use Prim.Native.Nat.{ℕ, _<_}
 use native.Mathlib.Omega.{arith}
-use Rattle.meaning.specs.Words.{and, mem, anyBelow}
+use Rattle.meaning.specs.Words.{and, mem}
 use Rattle.meaning.specs.Rows.{Record, births, nodeOf, timeOf, posOf}
 use Rattle.meaning.specs.Forest.{Rules}
 use Rattle.meaning.specs.Clean.{before, edgesFor, moved, standsAt, forestAt, lowAt, others, kept, clean}

@@ -4,43 +4,30 @@ use mathlib.Core.Bool.{Bool, true, false}
 use mathlib.Core.List.{List, [], _∷_, _++_}
 use mathlib.Core.Option.{Option, none, some}
 use mathlib.Core.Logic.{_⊎_, inl, inr, ⊎-elim}
-use Prim.Native.Nat.{ℕ, _<_, _≤_}
+use Prim.Native.Nat.{ℕ, _<_}
 use native.Mathlib.Omega.{arith}
 use lib.ListN.{length}
 use Rattle.meaning.specs.Words.{or, mem}
-use Rattle.meaning.specs.Rows.{Edge, Mutation, Record, births, nodeOf, timeOf, posOf}
+use Rattle.meaning.specs.Rows.{Mutation, Record, births, nodeOf, timeOf, posOf}
 use Rattle.meaning.specs.Forest.{Par, Ages, Rules, parentIn, reached, low, drawn}
 use Rattle.meaning.specs.Clean.{moved, standsAt, forestAt, lowAt, kept, clean}
 use Rattle.meaning.specs.Join.{Batch, keyed, bySite, join}
 use Rattle.laws.specs.Bools.{truth, not-true, some-inj}
-use Rattle.laws.specs.Members.{mem-here, mem-there, mem-left, mem-right, mem-split}
-use Rattle.laws.specs.Facts.{In, Distinct, Any, now, later, All, done, also, Cov, parents, JoinOk, CleanOk}
+use Rattle.laws.specs.Members.{mem-left, mem-right, mem-split}
+use Rattle.laws.specs.Facts.{In, Distinct, Any, All, done, also, Cov}
 use Rattle.forest.specs.TreeLaws.{Nodes}
 use Rattle.forest.specs.Profile.{Profile, Setting, joinPar}
 use Rattle.forest.specs.Position.{step-sub, step-stands, step-drawn, step-low-new, step-low-old, step-low-gone}
 use Rattle.history.specs.Lists.{distinct-join}
-use Rattle.history.specs.Nodes.{births-join, node-left, node-right}
-use Rattle.history.specs.Encode.{parent-of, of-parent}
+use Rattle.history.specs.Nodes.{node-left, node-right}
+use Rattle.history.specs.Encode.{parent-of}
 use Rattle.history.specs.Moved.{moved-by, moved-same, moved-twice, Twice}
 use Rattle.history.specs.JoinEdges.{Side, join-parent}
 use Rattle.history.specs.Kept.{kept-distinct, sample-kept}
-use Rattle.history.specs.Same.{Same, same-clean}
-use Rattle.history.specs.Cleaned.{good-edge, good-nodes, rule-at, stands-kept, kept-in, clean-births, clean-row, drawn-ends, clean-parent, clean-edge}
+use Rattle.history.specs.Same.{same-clean}
+use Rattle.history.specs.Cleaned.{good-edge, good-nodes, stands-kept, kept-in, clean-births, clean-row, drawn-ends, clean-parent, clean-edge}
 use Rattle.history.specs.Joined.{base-time, join-young, join-births, join-once}
-
--- neither call is refused, and S lists every fish of the record that the batch or S2 name: demand 3's premise
-pub record Fits (R : Record) (B : Batch) (S S2 : List ℕ) : Type 0 where
-  pub cleaned : CleanOk R S
-  pub joined : JoinOk R B
-  pub named : (q : ℕ) → mem q (parents (B .edges)) ≡ true → (mem q (births (B .nodes)) ≡ true) ⊎ In S q
-  pub from : (s : ℕ) → In S2 s → (mem s (births (B .nodes)) ≡ true) ⊎ In S s
-  pub distinct : Distinct S2
-
--- a parent that an edge of the batch gives is one that the batch names
-pub parents-have : (x v q : ℕ) (l : List Edge) → Any (Cov x v q) l → mem q (parents l) ≡ true
-unfolding parents
-parents-have x v q (e ∷ l) (now c) = mem-here q (e .parent) (parents l) (sym (c .to-parent))
-parents-have x v q (e ∷ l) (later a) = mem-there q (e .parent) (parents l) (parents-have x v q l a)
+use Rattle.history.specs.Fits.{Fits, parents-have}
 
 module _ (rule : Rules) (pr : Profile rule) (R : Record) (B : Batch) (S S2 : List ℕ) (ft : Fits R B S S2) where
   abbrev NR : List ℕ
@@ -216,7 +203,8 @@ module _ (rule : Rules) (pr : Profile rule) (R : Record) (B : Batch) (S S2 : Lis
   unfolding lowAt standsAt
   same-low-old x u a l n h =
       lowY x a l
-      ∙ step-low-old rule pr new (T x) (U x) rank S S2 (setting x) NR (ndT x) (births (X .nodes)) (births (Y .nodes)) (ndX x) (ndY x l) u a (omega (arith, rank-young u)) (omega (arith, rank-young a)) n h
+      ∙ step-low-old rule pr new (T x) (U x) rank S S2 (setting x) NR (ndT x) (births (X .nodes)) (births (Y .nodes)) (ndX x) (ndY x l) u a (omega (arith, rank-young u))
+      (omega (arith, rank-young a)) n h
       ∙ sym (lowX x u)
 
   same-low-gone : (x u : ℕ) → x < R .len → new u ≡ false → lowAt rule R S x u ≡ none → lowAt rule X S2 x u ≡ none
@@ -231,8 +219,11 @@ module _ (rule : Rules) (pr : Profile rule) (R : Record) (B : Batch) (S S2 : Lis
   row-same : (b : ℕ) → mem b (rows ++ NB) ≡ true → nodeOf (Y .nodes) b ≡ nodeOf (X .nodes) b
   unfolding join
   row-same b m = ⊎-elim
-      (λ (i : mem b rows ≡ true). node-left (C .nodes) (B .nodes) b (ap (mem b) (clean-births rule pr R S (ft .cleaned)) ∙ i) ∙ clean-row rule pr R S (ft .cleaned) b i ∙ sym (node-left (R .nodes) (B .nodes) b (rows-old b i)))
-      (λ (i : mem b NB ≡ true). node-right (C .nodes) (B .nodes) b (ap (mem b) (clean-births rule pr R S (ft .cleaned)) ∙ not-true (mem b rows) (λ j. ft .joined .fresh b i (rows-old b j))) ∙ sym (node-right (R .nodes) (B .nodes) b (not-true (mem b NR) (ft .joined .fresh b i))))
+      (λ (i : mem b rows ≡ true). node-left (C .nodes) (B .nodes) b (ap (mem b) (clean-births rule pr R S (ft .cleaned)) ∙ i) ∙ clean-row rule pr R S (ft .cleaned) b i ∙ sym
+      (node-left (R .nodes) (B .nodes) b (rows-old b i)))
+      (λ (i : mem b NB ≡ true). node-right (C .nodes) (B .nodes) b
+      (ap (mem b) (clean-births rule pr R S (ft .cleaned)) ∙ not-true (mem b rows) (λ j. ft .joined .fresh b i (rows-old b j))) ∙ sym
+      (node-right (R .nodes) (B .nodes) b (not-true (mem b NR) (ft .joined .fresh b i))))
       (mem-split b rows NB m)
 
   -- what stands somewhere in the join of the whole record was kept, or is new
@@ -244,10 +235,16 @@ module _ (rule : Rules) (pr : Profile rule) (R : Record) (B : Batch) (S S2 : Lis
       (truth (new b))
     where
       k : or (new b) (K x b) ≡ true
-      k = step-sub rule pr new (T x) (U x) rank S S2 (setting x) NR (ndT x) (births (X .nodes)) (births (Y .nodes)) (ndX x) (ndY x l) b (ap (λ (F : Par). rule (births (X .nodes)) F S2 b) (sym (X-parent x)) ∙ h)
+      k = step-sub rule pr new (T x) (U x) rank S S2 (setting x) NR (ndT x) (births (X .nodes)) (births (Y .nodes)) (ndX x) (ndY x l) b
+          (ap (λ (F : Par). rule (births (X .nodes)) F S2 b) (sym (X-parent x)) ∙ h)
 
   in-both : (b : ℕ) → mem b (rows ++ NB) ≡ true → (mem b (births (Y .nodes)) ≡ true) × (mem b (births (X .nodes)) ≡ true) × (nodeOf (Y .nodes) b ≡ nodeOf (X .nodes) b)
-  in-both b m = (ap (mem b) Y-births ∙ m, ap (mem b) X-births ∙ ⊎-elim (λ (i : mem b rows ≡ true). mem-left b NR NB (rows-old b i)) (λ (i : mem b NB ≡ true). mem-right b NR NB i) (mem-split b rows NB m), row-same b m)
+  in-both b m = (
+    ap (mem b) Y-births ∙ m,
+    ap (mem b) X-births ∙ ⊎-elim (λ (i : mem b rows ≡ true). mem-left b NR NB (rows-old b i))
+        (λ (i : mem b NB ≡ true). mem-right b NR NB i) (mem-split b rows NB m),
+    row-same b m,
+  )
 
   -- ---- mutations
 
@@ -261,7 +258,8 @@ module _ (rule : Rules) (pr : Profile rule) (R : Record) (B : Batch) (S S2 : Lis
     goes = λ e. same-low-gone (pos (m .site)) (m .node) (p .1) (old-not-new (m .node) (p .0)) e;
   }) (base-muts l a)
 
-  batch-muts : (l : List Mutation) → All (λ (m : Mutation). (mem (m .node) NB ≡ true) × (pos (m .site) < R .len)) l → All (λ (m : Mutation). lowAt rule Y S2 (pos (m .site)) (m .node) ≡ lowAt rule X S2 (pos (m .site)) (m .node)) l
+  batch-muts : (l : List Mutation) → All (λ (m : Mutation). (mem (m .node) NB ≡ true) × (pos (m .site) < R .len)) l →
+      All (λ (m : Mutation). lowAt rule Y S2 (pos (m .site)) (m .node) ≡ lowAt rule X S2 (pos (m .site)) (m .node)) l
   batch-muts [] done = done
   batch-muts (m ∷ l) (also p a) = also (same-low-new (pos (m .site)) (m .node) (p .1) (p .0)) (batch-muts l a)
 

@@ -1,25 +1,25 @@
 -- A cleaning for S before a cleaning for F, where S has F, changes nothing: the one-step law for a batch with no rows.
 use mathlib.Core.Path.{_≡_, refl, sym, ap, _∙_, fun-ext}
-use mathlib.Core.Bool.{Bool, true, false, not}
-use mathlib.Core.List.{List, [], _∷_, _++_, map}
-use mathlib.Core.Option.{Option}
+use mathlib.Core.Bool.{false, not}
+use mathlib.Core.List.{List, [], _++_, map}
 use mathlib.Core.Logic.{inr}
-use Prim.Native.Nat.{ℕ, _<_}
+use Prim.Native.Nat.{ℕ}
 use native.Mathlib.Omega.{arith}
 use Rattle.meaning.specs.Words.{and, mem, filter, anyBelow, sort}
-use Rattle.meaning.specs.Rows.{Node, Edge, Record, births, nodeOf, timeOf, posOf}
+use Rattle.meaning.specs.Rows.{Record, births, nodeOf, timeOf, posOf}
 use Rattle.meaning.specs.Forest.{Ages, Rules, parentIn, reached, low, drawn}
 use Rattle.meaning.specs.Clean.{before, edgesFor, standsAt, forestAt, lowAt, others, kept, clean}
 use Rattle.meaning.specs.Join.{Batch, keyed, join}
 use Rattle.laws.specs.Members.{mem-nil}
-use Rattle.laws.specs.Facts.{In, Distinct, nil, All, done, parents, Good, JoinOk, CleanOk}
+use Rattle.laws.specs.Facts.{In, Distinct, nil, done, parents, Good, JoinOk, CleanOk}
 use Rattle.forest.specs.Profile.{Profile, joinPar}
 use Rattle.history.specs.Lists.{append-nil}
 use Rattle.history.specs.JoinEdges.{join-parent}
 use Rattle.history.specs.Moved.{moved-twice}
 use Rattle.history.specs.Same.{record-eq}
 use Rattle.history.specs.Cleaned.{clean-good}
-use Rattle.history.specs.Step.{Fits, one-step, base-muts}
+use Rattle.history.specs.Fits.{Fits}
+use Rattle.history.specs.Step.{one-step, base-muts}
 
 -- ---- cleaning goes by the nodes and the forest, not by the rows of edges
 
