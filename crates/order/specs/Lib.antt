@@ -2,4 +2,5 @@
 pub mod Order
 pub mod Heap
 pub mod Lex
-
+pub mod Counts
+pub mod Laws
