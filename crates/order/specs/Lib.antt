@@ -4,3 +4,4 @@ pub mod Heap
 pub mod Lex
 pub mod Counts
 pub mod Laws
+pub mod Mapped
