@@ -1,0 +1,7 @@
+-- What the sort promises, what its parts promise, and laws that equate what it leaves with the definitions' sort.
+pub mod Order
+pub mod Heap
+pub mod Lex
+pub mod Counts
+pub mod Laws
+pub mod Mapped
