@@ -5,3 +5,4 @@ pub mod Lex
 pub mod Counts
 pub mod Laws
 pub mod Mapped
+pub mod Tables
