@@ -1,0 +1,4 @@
+-- The customer's demands.
+pub mod Histories
+pub mod Third
+pub mod Shown
