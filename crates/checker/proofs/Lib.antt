@@ -1,0 +1,3 @@
+-- Laws of the order of the rules, and of what a check that is done has found.
+pub mod Order
+pub mod Rows
