@@ -1,0 +1,5 @@
+-- Laws that the proofs of this crate's functions share.
+pub mod Filling
+pub mod Marking
+pub mod Overtaking
+pub mod Ready

@@ -1,0 +1,179 @@
+// The parents of all nodes at a position, marking upwards along them, and 01's rule 10 by rows.
+ghost use mathlib.Core.Path.{_≡_};
+ghost use Prim.Native.Nat.{ℕ, _<_, _≤_};
+ghost use lib.ListN.{length, replicate};
+ghost use Rattle.meaning.specs.Words.{at, rows, lowest};
+ghost use Rattle.meaning.specs.Rows.{EdgeColumns, MutationColumns, edgesOf};
+ghost use Rattle.meaning.specs.Answer.{limits};
+ghost use Rattle.meaning.specs.Check.{mutationAbove};
+ghost use Rattle.ancestry.specs.Column.{code, parOf, parentRow, Fitting, Rising};
+ghost use Rattle.ancestry.specs.Marks.{Markable, MarkedUp};
+ghost use Rattle.ancestry.specs.Overtaken.{starts, overtaken, Lined, Ordered, TakenUp};
+
+// A column with a parent row for each node row.
+pub struct ParentColumn {
+    pub rows: usize,
+}
+
+impl ParentColumn {
+    // The cell of a row that has no parent: no table is so long.
+    pub const NONE: u32 = 4294967295;
+}
+
+// Puts one value into each cell.
+fn clear(par: &mut [u32], value: u32)
+    ensures { λ _. ⌜ now (par .exit) ≡ replicate (length (now (par .entry))) value ⌝ }
+{
+    let mut i = 0;
+    while i < par.len() {
+        par[i] = value;
+        i += 1;
+    }
+}
+
+// Each row's parent at x. The first edge row that holds decides, so the rows are gone over from the last to the first.
+pub fn parents_at(
+    left: &[u32],
+    right: &[u32],
+    parent: &[u32],
+    child: &[u32],
+    x: u32,
+    par: &mut [u32],
+)
+    requires { ⌜ Fitting (record { left = now left; right = now right; parent = now parent; child = now child }) (length (now par)) ⌝ }
+    ensures { λ _. ⌜ now (par .exit) ≡ rows (λ u. code (parentRow (record { left = now (left .entry); right = now (right .entry); parent = now (parent .entry); child = now (child .entry) }) x u)) (length (now (par .entry))) ⌝ }
+{
+    clear(par, ParentColumn::NONE);
+    let mut j = left.len();
+    while 0 < j {
+        j -= 1;
+        if left[j] <= x {
+            if x < right[j] {
+                par[child[j] as usize] = parent[j];
+            }
+        }
+    }
+}
+
+// Marks every proper ancestor of row u along par. It calls itself; the number of older nodes falls.
+// What is marked is closed upwards, so the first mark met ends the way.
+pub fn mark_up(time: &[u32], par: &[u32], marks: &mut [u8], u: u32)
+    requires { ⌜ Markable (now time) (now par) (now marks) u ⌝ }
+    ensures { λ _. ⌜ MarkedUp (parOf (now (par .entry))) u (now (marks .entry)) (now (marks .exit)) ⌝ }
+{
+    let p = par[u as usize];
+    if p == ParentColumn::NONE {
+        return;
+    }
+    if marks[p as usize] == 1 {
+        return;
+    }
+    marks[p as usize] = 1;
+    mark_up(time, par, marks, p);
+}
+
+// Takes every mark off.
+fn clear_marks(marks: &mut [u8])
+    ensures { λ _. ⌜ now (marks .exit) ≡ replicate (length (now (marks .entry))) 0 ⌝ }
+{
+    let mut i = 0;
+    while i < marks.len() {
+        marks[i] = 0;
+        i += 1;
+    }
+}
+
+// Whether mutation row i has another site than the row before.
+fn starts_site(site: &[u32], i: usize) -> bool
+    requires { ⌜ i < length (now site) ⌝ }
+    ensures { λ r. ⌜ r ≡ starts (now (site .entry)) i ⌝ }
+{
+    if i == 0 {
+        return true;
+    }
+    site[i - 1] != site[i]
+}
+
+// Makes ready for mutation row i: at a new site the parents are filled and the marks taken off, once for the site.
+fn take_up(
+    left: &[u32],
+    right: &[u32],
+    parent: &[u32],
+    child: &[u32],
+    position: &[u32],
+    site: &[u32],
+    i: usize,
+    par: &mut [u32],
+    marks: &mut [u8],
+)
+    requires { ⌜ Fitting (record { left = now left; right = now right; parent = now parent; child = now child }) (length (now par)) × (i < length (now site)) × (at (now site) i < length (now position)) ⌝ }
+    ensures { λ _. ⌜ TakenUp (record { left = now (left .entry); right = now (right .entry); parent = now (parent .entry); child = now (child .entry) }) (now (position .entry)) (now (site .entry)) i (now (par .entry)) (now (marks .entry)) (now (par .exit)) (now (marks .exit)) ⌝ }
+{
+    if starts_site(site, i) {
+        let x = position[site[i] as usize];
+        parents_at(left, right, parent, child, x, par);
+        clear_marks(marks);
+    }
+}
+
+// The lowest mutation row that is above an earlier one of its site, or the number of rows; par and marks are working columns.
+// Each site's parents are filled once, and each node is marked once for a site.
+fn lowest_above(
+    time: &[u32],
+    left: &[u32],
+    right: &[u32],
+    parent: &[u32],
+    child: &[u32],
+    position: &[u32],
+    site: &[u32],
+    node: &[u32],
+    par: &mut [u32],
+    marks: &mut [u8],
+) -> usize
+    requires { ⌜ Ordered (now time) (record { left = now left; right = now right; parent = now parent; child = now child }) (now position) (now site) (now node) (length (now par)) × (length (now marks) ≡ length (now par)) ⌝ }
+    ensures { λ r. ⌜ r ≡ lowest (overtaken (record { left = now (left .entry); right = now (right .entry); parent = now (parent .entry); child = now (child .entry) }) (now (position .entry)) (now (site .entry)) (now (node .entry))) (length (now (site .entry))) ⌝ }
+{
+    let mut i = 0;
+    while i < site.len() {
+        take_up(left, right, parent, child, position, site, i, par, marks);
+        let u = node[i];
+        if marks[u as usize] == 1 {
+            return i;
+        }
+        mark_up(time, par, marks, u);
+        i += 1;
+    }
+    site.len()
+}
+
+// 01's rule 10 by rows: the lowest mutation row whose node is a proper ancestor, at its site's position, of the node of an earlier
+// mutation at that site, or the number of rows.
+pub fn first_above(
+    time: &[u32],
+    left: &[u32],
+    right: &[u32],
+    parent: &[u32],
+    child: &[u32],
+    position: &[u32],
+    site: &[u32],
+    node: &[u32],
+    derived: &[u8],
+) -> usize
+    requires { ⌜ (length (now time) ≤ limits .nodes) × Rising (now time) (record { left = now left; right = now right; parent = now parent; child = now child }) × Lined (length (now position)) (length (now time)) (now site) (now node) ⌝ }
+    ensures { λ r. ⌜ r ≡ lowest (mutationAbove (edgesOf (λ x. x) (record { left = now (left .entry); right = now (right .entry); parent = now (parent .entry); child = now (child .entry) })) (now (position .entry)) (λ x. x) (record { site = now (site .entry); node = now (node .entry); derived = now (derived .entry) })) (length (now (site .entry))) ⌝ }
+{
+    let mut par = [0u32; meaning::NodeTable::MOST];
+    let mut marks = [0u8; meaning::NodeTable::MOST];
+    lowest_above(
+        time,
+        left,
+        right,
+        parent,
+        child,
+        position,
+        site,
+        node,
+        &mut par,
+        &mut marks,
+    )
+}
