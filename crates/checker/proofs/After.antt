@@ -7,7 +7,11 @@ use lib.Dec.{eqb, ltb}
 use lib.ListN.{length}
 use Rattle.meaning.specs.Words.{lowest}
 use Rattle.meaning.specs.Rows.{NodeColumns, EdgeColumns, Tables}
-use Rattle.meaning.specs.Answer.{Answer, Limits, done, refuse, refuseRow, accepted}
+use Rattle.meaning.specs.Answer.{Answer, Limits, done, refuse, refuseRow, accepted, refusalOf, checkedOf}
+use Rattle.meaning.specs.declared.Refusal.{Refusal}
+use Rattle.meaning.specs.declared.Refusal.the-variants.{Ragged, TooMany, Length, BirthRepeated, EdgeBroken, EdgeOrder, EdgeShared, SiteBroken, MutationBroken, MutationAbove, SampleUnknown, SampleRepeated, NoRoom, BatchRagged, BatchTooMany, BatchBirth, BatchEdge, BatchShared, BatchMutation, BatchAbove, MarkWrong, BytesEnd, BytesFollow, RowsOver, EdgeWide, MutationWide, NoSite, NoBirth}
+use Rattle.meaning.specs.declared.Checked.{Checked}
+use Rattle.meaning.specs.declared.Checked.the-variants as checked
 use Rattle.meaning.specs.Check.{shapes, sizes, lengthBroken, treeRules, siteRules, rules, checkThen, sampleRules, checkAllThen}
 use Rattle.checker.specs.Then.{after}
 
@@ -80,8 +84,56 @@ all-after m L T S a rest =
 
 -- ---- a call that goes on after a check: its answer is the check's, or what comes after
 
-pub tables-then : (m : Limits) (L : ℕ) (T : Tables) (rest : Answer) → checkThen m L T rest ≡ after (checkThen m L T done) rest
-tables-then m L T rest = ap (checkThen m L T) (sym (after-sound rest)) ∙ tables-after m L T done rest
+-- the group hands on what comes after it
+abbrev pub Hands : (Answer → Answer) → Type 0
+Hands G = (rest : Answer) → G rest ≡ after (G done) rest
 
-pub all-then : (m : Limits) (L : ℕ) (T : Tables) (S : List ℕ) (rest : Answer) → checkAllThen m L T S rest ≡ after (checkAllThen m L T S done) rest
-all-then m L T S rest = ap (checkAllThen m L T S) (sym (after-sound rest)) ∙ all-after m L T S done rest
+pub hands : (G : Answer → Answer) → ((a rest : Answer) → G (after a rest) ≡ after (G a) rest) → Hands G
+hands G h rest = ap G (sym (after-sound rest)) ∙ h done rest
+
+-- a refusal is no 0
+pub refused : (r : Refusal) → accepted (refusalOf r) ≡ false
+unfolding accepted
+refused r = elim r [
+  | Ragged t ↦ refl
+  | TooMany t ↦ refl
+  | Length ↦ refl
+  | BirthRepeated i ↦ refl
+  | EdgeBroken i ↦ refl
+  | EdgeOrder i ↦ refl
+  | EdgeShared i ↦ refl
+  | SiteBroken i ↦ refl
+  | MutationBroken i ↦ refl
+  | MutationAbove i ↦ refl
+  | SampleUnknown i ↦ refl
+  | SampleRepeated i ↦ refl
+  | NoRoom t ↦ refl
+  | BatchRagged t ↦ refl
+  | BatchTooMany t ↦ refl
+  | BatchBirth i ↦ refl
+  | BatchEdge i ↦ refl
+  | BatchShared i ↦ refl
+  | BatchMutation i ↦ refl
+  | BatchAbove i ↦ refl
+  | MarkWrong o ↦ refl
+  | BytesEnd o ↦ refl
+  | BytesFollow o ↦ refl
+  | RowsOver o ↦ refl
+  | EdgeWide i ↦ refl
+  | MutationWide i ↦ refl
+  | NoSite ↦ refl
+  | NoBirth ↦ refl
+]
+
+module _ (G : Answer → Answer) (h : Hands G) (c : Checked) (e : checkedOf c ≡ G done) where
+  -- the group refused, so its answer is the whole's
+  pub stops : (r : Refusal) → c ≡ checked.Refused r → (rest : Answer) → checkedOf c ≡ G rest
+  stops r q rest = e ∙ sym (h rest ∙ after-refused rest (ap accepted (sym e ∙ ap checkedOf q) ∙ refused r))
+
+  -- the group did not refuse, so the whole is what comes after
+  pub goes-on : c ≡ checked.Sound → (rest : Answer) → G rest ≡ rest
+  goes-on q rest = h rest ∙ ap (λ a. after a rest) (sym e ∙ ap checkedOf q) ∙ after-sound rest
+
+  pub was-sound : c ≡ checked.Sound → accepted (G done) ≡ true
+  unfolding accepted
+  was-sound q = ap accepted (sym e ∙ ap checkedOf q)

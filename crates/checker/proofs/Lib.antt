@@ -3,3 +3,5 @@ pub mod Order
 pub mod Rows
 pub mod After
 pub mod Sound
+pub mod Whole
+pub mod Sites

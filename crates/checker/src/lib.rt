@@ -1,30 +1,146 @@
 // The check of 01: numbers 1 to 12 in their order.
 ghost use mathlib.Core.Path.{_≡_};
+ghost use Prim.Native.Nat.{_≤_};
 ghost use lib.ListN.{length};
 ghost use Rattle.meaning.specs.Answer.{done, limits, checkedOf};
-ghost use Rattle.meaning.specs.Check.{treeRules, sampleRules};
-ghost use Rattle.rules.specs.Asked.{EvenEdges};
-ghost use Rattle.rules.specs.Lengths.{raggedTable, largeTable, refuseTable};
+ghost use Rattle.meaning.specs.Check.{rules, checkThen, check};
+ghost use Rattle.checker.specs.Found.{Shaped};
+
+mod groups;
+
 use meaning::Checked;
 use meaning::Refusal;
+use meaning::SampleTable;
 
-// 1 and 2 on lengths alone.
-fn lengths_checked(
-    time: usize,
-    birth: usize,
-    left: usize,
-    right: usize,
-    parent: usize,
-    child: usize,
-    position: usize,
-    ancestral: usize,
-    site: usize,
-    node: usize,
-    derived: usize,
+// 3 to 10, of tables that are not ragged.
+fn rules_checked(
+    len: u32,
+    time: &[u32],
+    birth: &[u32],
+    left: &[u32],
+    right: &[u32],
+    parent: &[u32],
+    child: &[u32],
+    position: &[u32],
+    ancestral: &[u8],
+    site: &[u32],
+    node: &[u32],
+    derived: &[u8],
 ) -> Checked
-    ensures { λ r. ⌜ checkedOf r ≡ refuseTable 1 (raggedTable (record { time = time; birth = birth; left = left; right = right; parent = parent; child = child; position = position; ancestral = ancestral; site = site; node = node; derived = derived })) (refuseTable 2 (largeTable limits time left position site) done) ⌝ }
+    requires { ⌜ Shaped (record { nodes = record { time = now time; birth = now birth }; edges = record { left = now left; right = now right; parent = now parent; child = now child }; sites = record { position = now position; ancestral = now ancestral }; muts = record { site = now site; node = now node; derived = now derived } }) × (length (now time) ≤ limits .nodes) ⌝ }
+    ensures { λ r. ⌜ checkedOf r ≡ rules len (record { nodes = record { time = now (time .entry); birth = now (birth .entry) }; edges = record { left = now (left .entry); right = now (right .entry); parent = now (parent .entry); child = now (child .entry) }; sites = record { position = now (position .entry); ancestral = now (ancestral .entry) }; muts = record { site = now (site .entry); node = now (node .entry); derived = now (derived .entry) } }) done ⌝ }
 {
-    let t = rules::lengths::ragged_table(
+    if rules::lengths::length_broken(len) {
+        return Checked::Refused(Refusal::Length);
+    }
+    let t = groups::tree_checked(len, time, birth, left, right, parent, child);
+    match t {
+        Checked::Refused(_) => t,
+        Checked::Sound => groups::sites_checked(
+            len,
+            time,
+            birth,
+            left,
+            right,
+            parent,
+            child,
+            position,
+            ancestral,
+            site,
+            node,
+            derived,
+        ),
+    }
+}
+
+// 1 to 10, for an allele and for the base of a join.
+pub fn check_tables(
+    len: u32,
+    time: &[u32],
+    birth: &[u32],
+    left: &[u32],
+    right: &[u32],
+    parent: &[u32],
+    child: &[u32],
+    position: &[u32],
+    ancestral: &[u8],
+    site: &[u32],
+    node: &[u32],
+    derived: &[u8],
+) -> Checked
+    ensures { λ r. ⌜ checkedOf r ≡ checkThen limits len (record { nodes = record { time = now (time .entry); birth = now (birth .entry) }; edges = record { left = now (left .entry); right = now (right .entry); parent = now (parent .entry); child = now (child .entry) }; sites = record { position = now (position .entry); ancestral = now (ancestral .entry) }; muts = record { site = now (site .entry); node = now (node .entry); derived = now (derived .entry) } }) done ⌝ }
+{
+    let s = groups::lengths_checked(
+        time.len(),
+        birth.len(),
+        left.len(),
+        right.len(),
+        parent.len(),
+        child.len(),
+        position.len(),
+        ancestral.len(),
+        site.len(),
+        node.len(),
+        derived.len(),
+    );
+    match s {
+        Checked::Refused(_) => s,
+        Checked::Sound => rules_checked(
+            len,
+            time,
+            birth,
+            left,
+            right,
+            parent,
+            child,
+            position,
+            ancestral,
+            site,
+            node,
+            derived,
+        ),
+    }
+}
+
+// 1 to 12.
+pub fn check(
+    len: u32,
+    time: &[u32],
+    birth: &[u32],
+    left: &[u32],
+    right: &[u32],
+    parent: &[u32],
+    child: &[u32],
+    position: &[u32],
+    ancestral: &[u8],
+    site: &[u32],
+    node: &[u32],
+    derived: &[u8],
+    samples: &[u32],
+) -> Checked
+    ensures { λ r. ⌜ checkedOf r ≡ check limits len (record { nodes = record { time = now (time .entry); birth = now (birth .entry) }; edges = record { left = now (left .entry); right = now (right .entry); parent = now (parent .entry); child = now (child .entry) }; sites = record { position = now (position .entry); ancestral = now (ancestral .entry) }; muts = record { site = now (site .entry); node = now (node .entry); derived = now (derived .entry) } }) (now (samples .entry)) ⌝ }
+{
+    let s = groups::lengths_checked(
+        time.len(),
+        birth.len(),
+        left.len(),
+        right.len(),
+        parent.len(),
+        child.len(),
+        position.len(),
+        ancestral.len(),
+        site.len(),
+        node.len(),
+        derived.len(),
+    );
+    if let Checked::Refused(_) = s {
+        return s;
+    }
+    if SampleTable::MOST < samples.len() {
+        return Checked::Refused(Refusal::TooMany(SampleTable::NUMBER));
+    }
+    let t = rules_checked(
+        len,
         time,
         birth,
         left,
@@ -37,59 +153,8 @@ fn lengths_checked(
         node,
         derived,
     );
-    if t != 0 {
-        return Checked::Refused(Refusal::Ragged(t));
+    match t {
+        Checked::Refused(_) => t,
+        Checked::Sound => groups::samples_checked(birth, samples),
     }
-    let m = rules::lengths::large_table(time, left, position, site);
-    if m != 0 {
-        return Checked::Refused(Refusal::TooMany(m));
-    }
-    Checked::Sound
-}
-
-// 4 to 7.
-fn tree_checked(
-    len: u32,
-    time: &[u32],
-    birth: &[u32],
-    left: &[u32],
-    right: &[u32],
-    parent: &[u32],
-    child: &[u32],
-) -> Checked
-    requires { ⌜ (length (now birth) ≡ length (now time)) × EvenEdges (record { left = now left; right = now right; parent = now parent; child = now child }) ⌝ }
-    ensures { λ r. ⌜ checkedOf r ≡ treeRules len (record { time = now (time .entry); birth = now (birth .entry) }) (record { left = now (left .entry); right = now (right .entry); parent = now (parent .entry); child = now (child .entry) }) done ⌝ }
-{
-    let b = rules::columns::first_repeated(birth);
-    if b < birth.len() {
-        return Checked::Refused(Refusal::BirthRepeated(b));
-    }
-    let e = rules::edges::first_broken_edge(len, time, left, right, parent, child);
-    if e < left.len() {
-        return Checked::Refused(Refusal::EdgeBroken(e));
-    }
-    let k = rules::edges::first_unordered(time, birth, left, right, parent, child);
-    if k < left.len() {
-        return Checked::Refused(Refusal::EdgeOrder(k));
-    }
-    let s = rules::edges::first_shared(left, right, parent, child);
-    if s < left.len() {
-        return Checked::Refused(Refusal::EdgeShared(s));
-    }
-    Checked::Sound
-}
-
-// 11 and 12.
-fn samples_checked(birth: &[u32], samples: &[u32]) -> Checked
-    ensures { λ r. ⌜ checkedOf r ≡ sampleRules (now (birth .entry)) (now (samples .entry)) done ⌝ }
-{
-    let u = rules::columns::first_unknown(birth, samples);
-    if u < samples.len() {
-        return Checked::Refused(Refusal::SampleUnknown(u));
-    }
-    let s = rules::columns::first_repeated(samples);
-    if s < samples.len() {
-        return Checked::Refused(Refusal::SampleRepeated(s));
-    }
-    Checked::Sound
 }

@@ -3,8 +3,8 @@ use mathlib.Core.Path.{sym, _∙_}
 use Rattle.meaning.specs.Check.{sampleRules}
 use Rattle.checker.proofs.Order.{row-found, row-none}
 use borrow.Author.Needs.{needs}
-use Rattle.checker.proofs.samples_checked.Statement.{statement}
-use Rattle.checker.proofs.samples_checked.Tie as tie
+use Rattle.checker.proofs.groups.samples_checked.Statement.{statement}
+use Rattle.checker.proofs.groups.samples_checked.Tie as tie
 
 first-unknown-requires : tie.Need-first-unknown-requires
 first-unknown-requires c κs = search needs

@@ -2,8 +2,8 @@
 use mathlib.Core.Path.{sym, _∙_}
 use Rattle.checker.proofs.Order.{table-found, table-none}
 use borrow.Author.Needs.{needs}
-use Rattle.checker.proofs.lengths_checked.Statement.{statement}
-use Rattle.checker.proofs.lengths_checked.Tie as tie
+use Rattle.checker.proofs.groups.lengths_checked.Statement.{statement}
+use Rattle.checker.proofs.groups.lengths_checked.Tie as tie
 
 ragged-table-requires : tie.Need-ragged-table-requires
 ragged-table-requires c κs = search needs

@@ -4,8 +4,8 @@ use Rattle.meaning.specs.Check.{treeRules}
 use Rattle.checker.proofs.Order.{row-found, row-none, none-found}
 use Rattle.checker.proofs.Rows.{named}
 use borrow.Author.Needs.{needs}
-use Rattle.checker.proofs.tree_checked.Statement.{statement}
-use Rattle.checker.proofs.tree_checked.Tie as tie
+use Rattle.checker.proofs.groups.tree_checked.Statement.{statement}
+use Rattle.checker.proofs.groups.tree_checked.Tie as tie
 
 first-repeated-requires : tie.Need-first-repeated-requires
 first-repeated-requires c κs = search needs
@@ -22,7 +22,7 @@ unfolding treeRules
 returns-2 c = sym (row-none _ _ _ _ _ (c .before .before .before .first-repeated .ensures) (c .before .before .if1 .left) ∙ row-found _ _ _ _ _ (c .before .first-broken-edge .ensures) (c .if2 .taken))
 
 first-unordered-requires : tie.Need-first-unordered-requires
-first-unordered-requires c κs = named _ _ _ (c .before .before .before .before .before .before .before .before .before .before .pre .0) (c .before .before .before .before .before .before .before .before .before .before .pre .1) (none-found _ _ _ (c .before .first-broken-edge .ensures) (c .if2 .left))
+first-unordered-requires c κs = named _ _ _ (c .before .before .before .before .before .before .before .before .before .before .pre .1) (none-found _ _ _ (c .before .first-broken-edge .ensures) (c .if2 .left)) _ (c .before .before .before .before .before .before .before .before .before .before .pre .0)
 
 returns-3 : tie.Need-returns-3
 unfolding treeRules
