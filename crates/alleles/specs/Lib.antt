@@ -2,3 +2,4 @@
 pub mod Marks
 pub mod Reading
 pub mod ByRows
+pub mod Call

@@ -5,11 +5,15 @@ ghost use lib.ListN.{length, replicate, set};
 ghost use Rattle.meaning.specs.Words.{at, rows};
 ghost use Rattle.meaning.specs.Rows.{EdgeColumns, MutationColumns, Tables, recordOf};
 ghost use Rattle.meaning.specs.Forest.{near};
+ghost use Rattle.meaning.specs.Answer.{alleleOf};
 ghost use Rattle.meaning.specs.Allele.{alleleAt};
 ghost use Rattle.ancestry.specs.Column.{no-row, older, parOf};
 ghost use Rattle.ancestry.specs.Marks.{marked};
+ghost use Rattle.alleles.specs.Call.{readAllele};
 ghost use Rattle.alleles.specs.Marks.{foundOf, rowOf, markAfter, stateAfter, Naming, marksOf, statesOf};
 ghost use Rattle.alleles.specs.Reading.{Climbable, carriedBy, Fillable, Opened, Readable};
+use meaning::Allele;
+use meaning::Refusal;
 
 // A node row that is looked for.
 pub enum Found {
@@ -173,4 +177,46 @@ pub fn state_of(
         &mut state,
     );
     carried(time, &par, &has, &state, other, u)
+}
+
+// The allele of the fish b at site row i, of tables that the check does not refuse.
+fn read_allele(
+    time: &[u32],
+    birth: &[u32],
+    left: &[u32],
+    right: &[u32],
+    parent: &[u32],
+    child: &[u32],
+    position: &[u32],
+    ancestral: &[u8],
+    site: &[u32],
+    node: &[u32],
+    derived: &[u8],
+    i: u32,
+    b: u32,
+) -> Allele
+    requires { ⌜ Readable (record { nodes = record { time = now time; birth = now birth }; edges = record { left = now left; right = now right; parent = now parent; child = now child }; sites = record { position = now position; ancestral = now ancestral }; muts = record { site = now site; node = now node; derived = now derived } }) ⌝ }
+    ensures { λ r. ⌜ ((L : ℕ) → alleleOf r ≡ readAllele L (record { nodes = record { time = now (time .entry); birth = now (birth .entry) }; edges = record { left = now (left .entry); right = now (right .entry); parent = now (parent .entry); child = now (child .entry) }; sites = record { position = now (position .entry); ancestral = now (ancestral .entry) }; muts = record { site = now (site .entry); node = now (node .entry); derived = now (derived .entry) } }) i b) ⌝ }
+{
+    if position.len() <= i as usize {
+        return Allele::Refused(Refusal::NoSite);
+    }
+    match row_of(birth, b) {
+        Found::At(u) => Allele::State(state_of(
+            time,
+            birth,
+            left,
+            right,
+            parent,
+            child,
+            position,
+            ancestral,
+            site,
+            node,
+            derived,
+            i,
+            u,
+        )),
+        Found::Nothing => Allele::Refused(Refusal::NoBirth),
+    }
 }

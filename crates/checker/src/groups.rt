@@ -1,0 +1,146 @@
+// The check of 01 in groups: rules on lengths, on nodes and edges, on sites and mutations, on samples.
+ghost use mathlib.Core.Path.{_≡_};
+ghost use Prim.Native.Nat.{_≤_};
+ghost use lib.ListN.{length};
+ghost use Rattle.meaning.specs.Answer.{done, limits, checkedOf};
+ghost use Rattle.meaning.specs.Check.{treeRules, siteRules, sampleRules};
+ghost use Rattle.rules.specs.Asked.{EvenEdges};
+ghost use Rattle.checker.specs.Found.{Shaped, TreeSound};
+ghost use Rattle.rules.specs.Lengths.{raggedTable, largeTable, refuseTable};
+use meaning::Checked;
+use meaning::Refusal;
+
+// 1 and 2 on lengths alone.
+pub fn lengths_checked(
+    time: usize,
+    birth: usize,
+    left: usize,
+    right: usize,
+    parent: usize,
+    child: usize,
+    position: usize,
+    ancestral: usize,
+    site: usize,
+    node: usize,
+    derived: usize,
+) -> Checked
+    ensures { λ r. ⌜ checkedOf r ≡ refuseTable 1 (raggedTable (record { time = time; birth = birth; left = left; right = right; parent = parent; child = child; position = position; ancestral = ancestral; site = site; node = node; derived = derived })) (refuseTable 2 (largeTable limits time left position site) done) ⌝ }
+{
+    let t = rules::lengths::ragged_table(
+        time,
+        birth,
+        left,
+        right,
+        parent,
+        child,
+        position,
+        ancestral,
+        site,
+        node,
+        derived,
+    );
+    if t != 0 {
+        return Checked::Refused(Refusal::Ragged(t));
+    }
+    let m = rules::lengths::large_table(time, left, position, site);
+    if m != 0 {
+        return Checked::Refused(Refusal::TooMany(m));
+    }
+    Checked::Sound
+}
+
+// 4 to 7.
+pub fn tree_checked(
+    len: u32,
+    time: &[u32],
+    birth: &[u32],
+    left: &[u32],
+    right: &[u32],
+    parent: &[u32],
+    child: &[u32],
+) -> Checked
+    requires { ⌜ (length (now birth) ≡ length (now time)) × EvenEdges (record { left = now left; right = now right; parent = now parent; child = now child }) ⌝ }
+    ensures { λ r. ⌜ checkedOf r ≡ treeRules len (record { time = now (time .entry); birth = now (birth .entry) }) (record { left = now (left .entry); right = now (right .entry); parent = now (parent .entry); child = now (child .entry) }) done ⌝ }
+{
+    let b = rules::columns::first_repeated(birth);
+    if b < birth.len() {
+        return Checked::Refused(Refusal::BirthRepeated(b));
+    }
+    let e = rules::edges::first_broken_edge(len, time, left, right, parent, child);
+    if e < left.len() {
+        return Checked::Refused(Refusal::EdgeBroken(e));
+    }
+    let k = rules::edges::first_unordered(time, birth, left, right, parent, child);
+    if k < left.len() {
+        return Checked::Refused(Refusal::EdgeOrder(k));
+    }
+    let s = rules::edges::first_shared(left, right, parent, child);
+    if s < left.len() {
+        return Checked::Refused(Refusal::EdgeShared(s));
+    }
+    Checked::Sound
+}
+
+// 8 to 10, of tables whose trees are sound.
+pub fn sites_checked(
+    len: u32,
+    time: &[u32],
+    birth: &[u32],
+    left: &[u32],
+    right: &[u32],
+    parent: &[u32],
+    child: &[u32],
+    position: &[u32],
+    ancestral: &[u8],
+    site: &[u32],
+    node: &[u32],
+    derived: &[u8],
+) -> Checked
+    requires { ⌜ Shaped (record { nodes = record { time = now time; birth = now birth }; edges = record { left = now left; right = now right; parent = now parent; child = now child }; sites = record { position = now position; ancestral = now ancestral }; muts = record { site = now site; node = now node; derived = now derived } }) × (length (now time) ≤ limits .nodes) × TreeSound len (record { time = now time; birth = now birth }) (record { left = now left; right = now right; parent = now parent; child = now child }) ⌝ }
+    ensures { λ r. ⌜ checkedOf r ≡ siteRules len (record { nodes = record { time = now (time .entry); birth = now (birth .entry) }; edges = record { left = now (left .entry); right = now (right .entry); parent = now (parent .entry); child = now (child .entry) }; sites = record { position = now (position .entry); ancestral = now (ancestral .entry) }; muts = record { site = now (site .entry); node = now (node .entry); derived = now (derived .entry) } }) done ⌝ }
+{
+    let p = rules::columns::first_broken_site(len, position);
+    if p < position.len() {
+        return Checked::Refused(Refusal::SiteBroken(p));
+    }
+    let m = rules::mutations::first_broken_mutation(
+        position.len(),
+        time.len(),
+        site,
+        node,
+        derived,
+    );
+    if m < site.len() {
+        return Checked::Refused(Refusal::MutationBroken(m));
+    }
+    let a = ancestry::first_above(
+        time,
+        left,
+        right,
+        parent,
+        child,
+        position,
+        site,
+        node,
+        derived,
+    );
+    if a < site.len() {
+        return Checked::Refused(Refusal::MutationAbove(a));
+    }
+    Checked::Sound
+}
+
+// 11 and 12.
+pub fn samples_checked(birth: &[u32], samples: &[u32]) -> Checked
+    ensures { λ r. ⌜ checkedOf r ≡ sampleRules (now (birth .entry)) (now (samples .entry)) done ⌝ }
+{
+    let u = rules::columns::first_unknown(birth, samples);
+    if u < samples.len() {
+        return Checked::Refused(Refusal::SampleUnknown(u));
+    }
+    let s = rules::columns::first_repeated(samples);
+    if s < samples.len() {
+        return Checked::Refused(Refusal::SampleRepeated(s));
+    }
+    Checked::Sound
+}

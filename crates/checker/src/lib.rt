@@ -1,0 +1,160 @@
+// The check of 01: numbers 1 to 12 in their order.
+ghost use mathlib.Core.Path.{_≡_};
+ghost use Prim.Native.Nat.{_≤_};
+ghost use lib.ListN.{length};
+ghost use Rattle.meaning.specs.Answer.{done, limits, checkedOf};
+ghost use Rattle.meaning.specs.Check.{rules, checkThen, check};
+ghost use Rattle.checker.specs.Found.{Shaped};
+
+mod groups;
+
+use meaning::Checked;
+use meaning::Refusal;
+use meaning::SampleTable;
+
+// 3 to 10, of tables that are not ragged.
+fn rules_checked(
+    len: u32,
+    time: &[u32],
+    birth: &[u32],
+    left: &[u32],
+    right: &[u32],
+    parent: &[u32],
+    child: &[u32],
+    position: &[u32],
+    ancestral: &[u8],
+    site: &[u32],
+    node: &[u32],
+    derived: &[u8],
+) -> Checked
+    requires { ⌜ Shaped (record { nodes = record { time = now time; birth = now birth }; edges = record { left = now left; right = now right; parent = now parent; child = now child }; sites = record { position = now position; ancestral = now ancestral }; muts = record { site = now site; node = now node; derived = now derived } }) × (length (now time) ≤ limits .nodes) ⌝ }
+    ensures { λ r. ⌜ checkedOf r ≡ rules len (record { nodes = record { time = now (time .entry); birth = now (birth .entry) }; edges = record { left = now (left .entry); right = now (right .entry); parent = now (parent .entry); child = now (child .entry) }; sites = record { position = now (position .entry); ancestral = now (ancestral .entry) }; muts = record { site = now (site .entry); node = now (node .entry); derived = now (derived .entry) } }) done ⌝ }
+{
+    if rules::lengths::length_broken(len) {
+        return Checked::Refused(Refusal::Length);
+    }
+    let t = groups::tree_checked(len, time, birth, left, right, parent, child);
+    match t {
+        Checked::Refused(_) => t,
+        Checked::Sound => groups::sites_checked(
+            len,
+            time,
+            birth,
+            left,
+            right,
+            parent,
+            child,
+            position,
+            ancestral,
+            site,
+            node,
+            derived,
+        ),
+    }
+}
+
+// 1 to 10, for an allele and for the base of a join.
+pub fn check_tables(
+    len: u32,
+    time: &[u32],
+    birth: &[u32],
+    left: &[u32],
+    right: &[u32],
+    parent: &[u32],
+    child: &[u32],
+    position: &[u32],
+    ancestral: &[u8],
+    site: &[u32],
+    node: &[u32],
+    derived: &[u8],
+) -> Checked
+    ensures { λ r. ⌜ checkedOf r ≡ checkThen limits len (record { nodes = record { time = now (time .entry); birth = now (birth .entry) }; edges = record { left = now (left .entry); right = now (right .entry); parent = now (parent .entry); child = now (child .entry) }; sites = record { position = now (position .entry); ancestral = now (ancestral .entry) }; muts = record { site = now (site .entry); node = now (node .entry); derived = now (derived .entry) } }) done ⌝ }
+{
+    let s = groups::lengths_checked(
+        time.len(),
+        birth.len(),
+        left.len(),
+        right.len(),
+        parent.len(),
+        child.len(),
+        position.len(),
+        ancestral.len(),
+        site.len(),
+        node.len(),
+        derived.len(),
+    );
+    match s {
+        Checked::Refused(_) => s,
+        Checked::Sound => rules_checked(
+            len,
+            time,
+            birth,
+            left,
+            right,
+            parent,
+            child,
+            position,
+            ancestral,
+            site,
+            node,
+            derived,
+        ),
+    }
+}
+
+// 1 to 12.
+pub fn check(
+    len: u32,
+    time: &[u32],
+    birth: &[u32],
+    left: &[u32],
+    right: &[u32],
+    parent: &[u32],
+    child: &[u32],
+    position: &[u32],
+    ancestral: &[u8],
+    site: &[u32],
+    node: &[u32],
+    derived: &[u8],
+    samples: &[u32],
+) -> Checked
+    ensures { λ r. ⌜ checkedOf r ≡ check limits len (record { nodes = record { time = now (time .entry); birth = now (birth .entry) }; edges = record { left = now (left .entry); right = now (right .entry); parent = now (parent .entry); child = now (child .entry) }; sites = record { position = now (position .entry); ancestral = now (ancestral .entry) }; muts = record { site = now (site .entry); node = now (node .entry); derived = now (derived .entry) } }) (now (samples .entry)) ⌝ }
+{
+    let s = groups::lengths_checked(
+        time.len(),
+        birth.len(),
+        left.len(),
+        right.len(),
+        parent.len(),
+        child.len(),
+        position.len(),
+        ancestral.len(),
+        site.len(),
+        node.len(),
+        derived.len(),
+    );
+    if let Checked::Refused(_) = s {
+        return s;
+    }
+    if SampleTable::MOST < samples.len() {
+        return Checked::Refused(Refusal::TooMany(SampleTable::NUMBER));
+    }
+    let t = rules_checked(
+        len,
+        time,
+        birth,
+        left,
+        right,
+        parent,
+        child,
+        position,
+        ancestral,
+        site,
+        node,
+        derived,
+    );
+    match t {
+        Checked::Refused(_) => t,
+        Checked::Sound => groups::samples_checked(birth, samples),
+    }
+}
