@@ -89,9 +89,9 @@ module _ (U : ℕ → Par) (n L x : ℕ) (F : List Edge) (left par : ℕ → ℕ
     once = k .once;
     covers = λ y d p a l e. ⊎-elim
         (λ (q : d ≡ c). ⊎-elim
-            (λ (u : Any (Cov y d p) F). inl u)
-            (λ (u : left d ≤ y). absurd (k .named y d p l e (sym (code-some e) ∙ k .run d l .same y u a ∙ ap par q ∙ z)))
-            (k .covers y d p a l e))
+        (λ (u : Any (Cov y d p) F). inl u)
+        (λ (u : left d ≤ y). absurd (k .named y d p l e (sym (code-some e) ∙ k .run d l .same y u a ∙ ap par q ∙ z)))
+        (k .covers y d p a l e))
         (λ (q : d ≡ c → ⊥). covered y d p q (k .covers y d p a l e))
         (eq? d c);
   }
@@ -125,14 +125,14 @@ module _ (U : ℕ → Par) (n L x : ℕ) (F : List Edge) (left par : ℕ → ℕ
       once = once-snoc F ending (k .once) (all-to ending-apart (k .edges));
       covers = λ y d p a l e. ⊎-elim
           (λ (q : d ≡ c). ⊎-elim
-              (λ (u : Any (Cov y d p) F). inl (any-left (ending ∷ []) u))
-              (λ (u : left d ≤ y). inl (any-right F (now (record {
-                of-child = sym q;
-                begun = rw q at u;
-                not-over = a;
-                to-parent = sym (ap par q) ∙ sym (k .run d l .same y u a) ∙ code-some e;
-              }))))
-              (k .covers y d p a l e))
+          (λ (u : Any (Cov y d p) F). inl (any-left (ending ∷ []) u))
+          (λ (u : left d ≤ y). inl (any-right F (now (record {
+            of-child = sym q;
+            begun = rw q at u;
+            not-over = a;
+            to-parent = sym (ap par q) ∙ sym (k .run d l .same y u a) ∙ code-some e;
+          }))))
+          (k .covers y d p a l e))
           (λ (q : d ≡ c → ⊥). ⊎-elim (λ (u : Any (Cov y d p) F). inl (any-left (ending ∷ []) u)) (λ (u : left' d ≤ y). inr u) (covered y d p q (k .covers y d p a l e)))
           (eq? d c);
     }

@@ -1,4 +1,5 @@
 -- The runs of the sweep: from the changing column of output parents to finished edges, each as long as it can be.
 pub mod Segments
 pub mod Runs
+pub mod Promises
 pub mod Sweep

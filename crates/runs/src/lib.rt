@@ -4,6 +4,8 @@ ghost use Prim.Native.Nat.{ℕ, _<_, _≤_};
 ghost use mathlib.Core.List.{List};
 ghost use lib.ListN.{length};
 ghost use Rattle.runs.specs.Segments.{cutAt};
+ghost use Rattle.runs.specs.Runs.{OpenRuns, Store, Room, Opened};
+ghost use Rattle.runs.specs.Promises.{edgeOf, Pushed, Ready, RowSettled, ChangeSettled, Closed};
 
 // 01: "ancestral segments: a left, a right and an output row". Here the row is the parent row of a run.
 pub struct Segment {
@@ -36,4 +38,40 @@ impl Segment {
             },
         }
     }
+}
+
+// A column with an output parent row for each node row.
+pub struct RunColumn {
+    pub rows: usize,
+}
+
+impl RunColumn {
+    // The cell of a row that has no output parent: no table is so long.
+    pub const NONE: u32 = 4294967295;
+}
+
+// One more finished edge: its parent is marked, and it is written while there is room. The count stops at one more than fit.
+fn push(
+    seg: Segment,
+    child: u32,
+    fl: &mut [u32],
+    fr: &mut [u32],
+    fp: &mut [u32],
+    fc: &mut [u32],
+    stood: &mut [u8],
+    count: usize,
+) -> usize
+    requires { ⌜ Room (length (now stood)) (record { left = now fl; right = now fr; parent = now fp; child = now fc; stood = now stood; count = count }) × (seg .row < length (now stood)) ⌝ }
+    ensures { λ r. ⌜ Pushed (edgeOf seg child) (record { left = now (fl .entry); right = now (fr .entry); parent = now (fp .entry); child = now (fc .entry); stood = now (stood .entry); count = count }) (record { left = now (fl .exit); right = now (fr .exit); parent = now (fp .exit); child = now (fc .exit); stood = now (stood .exit); count = r }) ⌝ }
+{
+    let row = seg.row;
+    stood[row as usize] = 1;
+    if count < fl.len() {
+        fl[count] = seg.left;
+        fr[count] = seg.right;
+        fp[count] = row;
+        fc[count] = child;
+        return count + 1;
+    }
+    fl.len() + 1
 }
