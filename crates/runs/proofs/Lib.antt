@@ -1,3 +1,4 @@
 -- Laws that belong to no one function.
 pub mod Turning
 pub mod Storing
+pub mod Settling

@@ -75,3 +75,44 @@ fn push(
     }
     fl.len() + 1
 }
+
+// Deals with one row at x: where its output parent is another than that of its open run, the run is cut at x, its front is
+// finished, and a run of the new parent begins.
+fn settle_row(
+    x: u32,
+    len: u32,
+    c: u32,
+    up: &[u32],
+    open_left: &mut [u32],
+    open_par: &mut [u32],
+    fl: &mut [u32],
+    fr: &mut [u32],
+    fp: &mut [u32],
+    fc: &mut [u32],
+    stood: &mut [u8],
+    count: usize,
+) -> usize
+    requires { ⌜ Ready (now up) (record { left = now open_left; par = now open_par }) (record { left = now fl; right = now fr; parent = now fp; child = now fc; stood = now stood; count = count }) × (c < length (now up)) ⌝ }
+    ensures { λ r. ⌜ RowSettled x c (now (up .entry)) (record { left = now (open_left .entry); par = now (open_par .entry) }) (record { left = now (fl .entry); right = now (fr .entry); parent = now (fp .entry); child = now (fc .entry); stood = now (stood .entry); count = count }) (record { left = now (open_left .exit); par = now (open_par .exit) }) (record { left = now (fl .exit); right = now (fr .exit); parent = now (fp .exit); child = now (fc .exit); stood = now (stood .exit); count = r }) ⌝ }
+{
+    let i = c as usize;
+    let was = open_par[i];
+    let par = up[i];
+    if was == par {
+        return count;
+    }
+    let left = open_left[i];
+    open_left[i] = x;
+    open_par[i] = par;
+    if was == RunColumn::NONE {
+        return count;
+    }
+    let open = Segment {
+        left: left,
+        right: len,
+        row: was,
+    };
+    let cut = open.cut(x);
+    let front = cut.front;
+    push(front, c, fl, fr, fp, fc, stood, count)
+}
