@@ -2,3 +2,4 @@
 pub mod Turning
 pub mod Storing
 pub mod Settling
+pub mod Changing

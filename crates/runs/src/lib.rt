@@ -3,6 +3,7 @@ ghost use mathlib.Core.Path.{_≡_};
 ghost use Prim.Native.Nat.{ℕ, _<_, _≤_};
 ghost use mathlib.Core.List.{List};
 ghost use lib.ListN.{length};
+ghost use Rattle.meaning.specs.Words.{at};
 ghost use Rattle.runs.specs.Segments.{cutAt};
 ghost use Rattle.runs.specs.Runs.{OpenRuns, Store, Room, Opened};
 ghost use Rattle.runs.specs.Promises.{edgeOf, Pushed, Ready, RowSettled, ChangeSettled, Closed};
@@ -115,4 +116,46 @@ fn settle_row(
     let cut = open.cut(x);
     let front = cut.front;
     push(front, c, fl, fr, fp, fc, stood, count)
+}
+
+// Deals with the change at x: the first nt rows of touched are those whose output parent may be another. The answer is the new count.
+pub fn settle(
+    x: u32,
+    len: u32,
+    touched: &[u32],
+    nt: usize,
+    up: &[u32],
+    open_left: &mut [u32],
+    open_par: &mut [u32],
+    fl: &mut [u32],
+    fr: &mut [u32],
+    fp: &mut [u32],
+    fc: &mut [u32],
+    stood: &mut [u8],
+    count: usize,
+) -> usize
+    requires { ⌜ Ready (now up) (record { left = now open_left; par = now open_par }) (record { left = now fl; right = now fr; parent = now fp; child = now fc; stood = now stood; count = count }) × (nt ≤ length (now touched)) × ((i : ℕ) → i < nt → at (now touched) i < length (now up)) ⌝ }
+    ensures { λ r. ⌜ ChangeSettled x (now (up .entry)) (now (touched .entry)) nt (record { left = now (open_left .entry); par = now (open_par .entry) }) (record { left = now (fl .entry); right = now (fr .entry); parent = now (fp .entry); child = now (fc .entry); stood = now (stood .entry); count = count }) (record { left = now (open_left .exit); par = now (open_par .exit) }) (record { left = now (fl .exit); right = now (fr .exit); parent = now (fp .exit); child = now (fc .exit); stood = now (stood .exit); count = r }) ⌝ }
+{
+    let mut made = count;
+    let mut i = 0;
+    while i < nt {
+        let c = touched[i];
+        made = settle_row(
+            x,
+            len,
+            c,
+            up,
+            open_left,
+            open_par,
+            fl,
+            fr,
+            fp,
+            fc,
+            stood,
+            made,
+        );
+        i += 1;
+    }
+    made
 }
