@@ -3,3 +3,4 @@ pub mod Turning
 pub mod Storing
 pub mod Settling
 pub mod Changing
+pub mod Closing

@@ -1,8 +1,10 @@
 -- What the functions of the sweep promise: each for every course of output parents U and every list F of edges finished so far.
 use mathlib.Core.Path.{_≡_}
+use mathlib.Core.Bool.{Bool, true, false}
 use mathlib.Core.List.{List, [], _∷_, _++_}
 use mathlib.Core.Logic.{_⊎_}
 use Prim.Native.Nat.{ℕ, _<_, _≤_}
+use lib.Dec.{eqb}
 use lib.ListN.{length}
 use Rattle.meaning.specs.Words.{at}
 use Rattle.meaning.specs.Rows.{Edge}
@@ -39,6 +41,14 @@ Touched up par k touched = (c : ℕ) → c < length up → (at par c ≡ at up c
 pub record ChangeSettled (x : ℕ) (up touched : List ℕ) (k : ℕ) (O : OpenRuns) (D : Store) (O' : OpenRuns) (D' : Store) : Type 0 where
   pub runs : Opened (length up) O'
   pub settles : (U : ℕ → Par) (L : ℕ) (F : List Edge) → Swept U (length up) L x F (at (O .left)) (at (O .par)) → ((c : ℕ) → c < length up → at up c ≡ code (U x c)) → Touched up (O .par) k touched → Stored (length up) F D → (F' : List Edge) × Settled U (length up) L x F' (at (O' .left)) (at (O' .par)) × Stored (length up) F' D'
+
+-- the edge that the open run of c, from s on with the cell o, leaves when it ends at x: none where it is of none
+unfoldable pub leaves : ℕ → ℕ → ℕ → ℕ → List Edge
+leaves x c s o = elim (eqb o no-row) [ true ↦ [] | false ↦ record { left = s; right = x; parent = o; child = c } ∷ [] ]
+
+-- the open run of row c is finished at x
+pub record RowClosed (x c : ℕ) (O : OpenRuns) (D D' : Store) : Type 0 where
+  pub closes : (n : ℕ) (F : List Edge) → Stored n F D → Stored n (F ++ leaves x c (at (O .left) c) (at (O .par) c)) D'
 
 -- every open run is finished at the end of the chromosome
 pub record Closed (L : ℕ) (O : OpenRuns) (D D' : Store) : Type 0 where

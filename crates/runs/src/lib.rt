@@ -6,7 +6,7 @@ ghost use lib.ListN.{length};
 ghost use Rattle.meaning.specs.Words.{at};
 ghost use Rattle.runs.specs.Segments.{cutAt};
 ghost use Rattle.runs.specs.Runs.{OpenRuns, Store, Room, Opened};
-ghost use Rattle.runs.specs.Promises.{edgeOf, Pushed, Ready, RowSettled, ChangeSettled, Closed};
+ghost use Rattle.runs.specs.Promises.{edgeOf, Pushed, Ready, RowSettled, ChangeSettled, RowClosed, Closed};
 
 // 01: "ancestral segments: a left, a right and an output row". Here the row is the parent row of a run.
 pub struct Segment {
@@ -156,6 +156,59 @@ pub fn settle(
             made,
         );
         i += 1;
+    }
+    made
+}
+
+// Finishes one row's open run at the end of the chromosome.
+fn close_row(
+    len: u32,
+    c: u32,
+    open_left: &[u32],
+    open_par: &[u32],
+    fl: &mut [u32],
+    fr: &mut [u32],
+    fp: &mut [u32],
+    fc: &mut [u32],
+    stood: &mut [u8],
+    count: usize,
+) -> usize
+    requires { ⌜ Opened (length (now open_par)) (record { left = now open_left; par = now open_par }) × Room (length (now open_par)) (record { left = now fl; right = now fr; parent = now fp; child = now fc; stood = now stood; count = count }) × (c < length (now open_par)) ⌝ }
+    ensures { λ r. ⌜ RowClosed len c (record { left = now (open_left .entry); par = now (open_par .entry) }) (record { left = now (fl .entry); right = now (fr .entry); parent = now (fp .entry); child = now (fc .entry); stood = now (stood .entry); count = count }) (record { left = now (fl .exit); right = now (fr .exit); parent = now (fp .exit); child = now (fc .exit); stood = now (stood .exit); count = r }) ⌝ }
+{
+    let i = c as usize;
+    let row = open_par[i];
+    if row == RunColumn::NONE {
+        return count;
+    }
+    let open = Segment {
+        left: open_left[i],
+        right: len,
+        row: row,
+    };
+    push(open, c, fl, fr, fp, fc, stood, count)
+}
+
+// Finishes every open run at the end of the chromosome. The answer is the number of finished edges, or one more than fit.
+pub fn close(
+    len: u32,
+    open_left: &[u32],
+    open_par: &[u32],
+    fl: &mut [u32],
+    fr: &mut [u32],
+    fp: &mut [u32],
+    fc: &mut [u32],
+    stood: &mut [u8],
+    count: usize,
+) -> usize
+    requires { ⌜ Opened (length (now open_par)) (record { left = now open_left; par = now open_par }) × Room (length (now open_par)) (record { left = now fl; right = now fr; parent = now fp; child = now fc; stood = now stood; count = count }) × (length (now open_par) ≤ 4294967295) ⌝ }
+    ensures { λ r. ⌜ Closed len (record { left = now (open_left .entry); par = now (open_par .entry) }) (record { left = now (fl .entry); right = now (fr .entry); parent = now (fp .entry); child = now (fc .entry); stood = now (stood .entry); count = count }) (record { left = now (fl .exit); right = now (fr .exit); parent = now (fp .exit); child = now (fc .exit); stood = now (stood .exit); count = r }) ⌝ }
+{
+    let mut made = count;
+    let mut c: u32 = 0;
+    while (c as usize) < open_par.len() {
+        made = close_row(len, c, open_left, open_par, fl, fr, fp, fc, stood, made);
+        c += 1;
     }
     made
 }
