@@ -3,3 +3,4 @@ pub mod Segments
 pub mod Runs
 pub mod Promises
 pub mod Sweep
+pub mod Collected
