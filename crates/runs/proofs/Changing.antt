@@ -1,15 +1,15 @@
 -- The change at x is dealt with row by row: what holds after the first rows of those touched, and at the end.
 use mathlib.Core.Path.{_≡_, refl, sym, ap, _∙_}
-use mathlib.Core.List.{List, [], _∷_}
-use mathlib.Core.Logic.{_⊎_, inl, inr, ⊎-elim}
-use Prim.Native.Nat.{ℕ, suc, _+_, _<_, _≤_}
+use mathlib.Core.List.{List}
+use mathlib.Core.Logic.{_⊎_, inr, ⊎-elim}
+use Prim.Native.Nat.{ℕ, _+_, _<_, _≤_}
 use native.Mathlib.Omega.{arith}
 use lib.ListN.{length}
 use Rattle.meaning.specs.Words.{at}
 use Rattle.meaning.specs.Rows.{Edge}
 use Rattle.meaning.specs.Forest.{Par}
 use Rattle.laws.specs.Bools.{eq?}
-use Rattle.runs.specs.Runs.{code, OpenRuns, Store, Room, Opened, Swept, Settling, Settled, Stored}
+use Rattle.runs.specs.Runs.{code, OpenRuns, Store, Room, Settling, Stored}
 use Rattle.runs.specs.Promises.{Ready, RowSettled, Touched, ChangeSettled}
 
 -- columns that keep their lengths keep their room
@@ -62,7 +62,7 @@ module _ (x : ℕ) (up touched : List ℕ) (O₀ : OpenRuns) (D₀ : Store) wher
         (r .0, record { kept = r .1 .kept; current = λ c m. current t c m ∙ u c m }, r .2);
   }
     where
-      current : Touched up (O₀ .par) k touched → (c : ℕ) → c < length up → at (O .par) c ≡ at up c
+      current : Touched (length up) up (O₀ .par) k touched → (c : ℕ) → c < length up → at (O .par) c ≡ at up c
       current t c m = ⊎-elim
           (λ (q : at (O .par) c ≡ at up c). q)
           (λ (q : at (O .par) c ≡ at up c → ⊥).

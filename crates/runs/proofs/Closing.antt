@@ -1,22 +1,21 @@
 -- At the end of the chromosome the open runs are finished row by row: what holds after the first rows, and at the end.
-use mathlib.Core.Path.{_≡_, refl, sym, ap, _∙_, fun-ext}
+use mathlib.Core.Path.{_≡_, refl, sym, _∙_, fun-ext}
 use mathlib.Core.Bool.{Bool, true, false}
 use mathlib.Core.List.{List, [], _∷_, _++_}
-use mathlib.Core.Option.{Option, none, some}
-use mathlib.Core.Logic.{_⊎_, inl, inr, ⊎-elim}
-use Prim.Native.Nat.{ℕ, suc, _+_, _<_, _≤_}
+use mathlib.Core.Logic.{_⊎_, ⊎-elim}
+use Prim.Native.Nat.{ℕ, _+_, _<_, _≤_}
 use native.Mathlib.Omega.{arith}
-use lib.Dec.{eqb, ltb}
+use lib.Dec.{ltb}
 use lib.ListN.{length}
 use borrow.Author.Tests.{lt-ltb, le-ltb, eq-eqb, ne-eqb, ltb-true, ltb-false}
 use Rattle.meaning.specs.Words.{at}
 use Rattle.meaning.specs.Rows.{Edge}
 use Rattle.meaning.specs.Forest.{Par}
 use Rattle.laws.specs.Bools.{eq?}
-use Rattle.laws.specs.Facts.{Any, All, Cov}
+use Rattle.laws.specs.Facts.{Any, Cov}
 use Rattle.history.specs.Lists.{all-to, append-nil}
 use Rattle.runs.specs.Runs.{no-row, OpenRuns, Store, Room, Opened, Behind, Kept, Swept, Collected, Stored}
-use Rattle.runs.specs.Promises.{edgeOf, leaves, Pushed, RowClosed, Closed}
+use Rattle.runs.specs.Promises.{leaves, Pushed, RowClosed, Closed}
 use Rattle.runs.proofs.Turning.{opened, turned}
 
 -- ---- one row

@@ -1,16 +1,16 @@
 -- The open run of one row becomes that of x: left as it is, begun anew, or finished and begun anew.
 use mathlib.Core.Path.{_≡_, refl, sym, ap, _∙_}
 use mathlib.Core.List.{List, [], _∷_, _++_}
-use mathlib.Core.Logic.{_⊎_, inl, inr, ⊎-elim}
-use Prim.Native.Nat.{ℕ, suc, _+_, _<_, _≤_}
+use mathlib.Core.Logic.{_⊎_, inl, ⊎-elim}
+use Prim.Native.Nat.{ℕ, _+_, _<_}
 use native.Mathlib.Omega.{arith}
-use lib.ListN.{length, getD, set, length-set}
+use lib.ListN.{length, set, length-set}
 use lib.Seq.{getD-set-same, getD-set-other}
 use Rattle.meaning.specs.Words.{at}
 use Rattle.meaning.specs.Rows.{Edge}
 use Rattle.meaning.specs.Forest.{Par}
 use Rattle.laws.specs.Bools.{eq?}
-use Rattle.runs.specs.Runs.{no-row, code, Named, OpenRuns, Store, Room, Opened, Kept, Behind, Settling, Stored}
+use Rattle.runs.specs.Runs.{no-row, code, OpenRuns, Store, Room, Opened, Behind, Settling}
 use Rattle.runs.specs.Promises.{Pushed, Ready, RowSettled}
 use Rattle.runs.proofs.Turning.{opened, turned}
 

@@ -1,15 +1,15 @@
 -- One more finished edge is stored: its parent is marked, and its cells are written while there is room.
-use mathlib.Core.Path.{_≡_, refl, sym, ap, _∙_}
+use mathlib.Core.Path.{_≡_, sym, ap, _∙_}
 use mathlib.Core.List.{List, [], _∷_, _++_}
 use mathlib.Core.Logic.{_⊎_, inl, inr, ⊎-elim}
-use Prim.Native.Nat.{ℕ, suc, min, _+_, _<_, _≤_}
+use Prim.Native.Nat.{ℕ, suc, _+_, _<_, _≤_}
 use native.Mathlib.Omega.{arith}
 use lib.ListN.{length, getD, set, length-append, length-set, List·getD-append}
 use lib.Seq.{getD-set-same, getD-set-other, getD-at}
 use Rattle.meaning.specs.Words.{at}
 use Rattle.meaning.specs.Rows.{Edge}
 use Rattle.laws.specs.Bools.{eq?}
-use Rattle.laws.specs.Facts.{Any, now, later}
+use Rattle.laws.specs.Facts.{now, later}
 use Rattle.history.specs.Lists.{any-left, any-right, any-split}
 use Rattle.runs.specs.Runs.{Store, no-edge, Room, Cell, Parent, Mark, Stored}
 

@@ -1,6 +1,6 @@
 -- One row's open run ends at x: it is finished as an edge if it is of a parent, and another begins.
-use mathlib.Core.Path.{_≡_, refl, sym, ap, _∙_}
-use mathlib.Core.Bool.{Bool, true, false}
+use mathlib.Core.Path.{_≡_, sym, ap, _∙_}
+use mathlib.Core.Bool.{true, false}
 use mathlib.Core.List.{List, [], _∷_, _++_}
 use mathlib.Core.Option.{Option, none, some}
 use mathlib.Core.Logic.{_⊎_, inl, inr, ⊎-elim}
@@ -9,7 +9,7 @@ use native.Mathlib.Omega.{arith}
 use Rattle.meaning.specs.Rows.{Edge}
 use Rattle.meaning.specs.Forest.{Par, is}
 use Rattle.laws.specs.Bools.{eq?, not-true}
-use Rattle.laws.specs.Facts.{Any, now, later, All, done, also, Cov}
+use Rattle.laws.specs.Facts.{Any, now, All, done, also, Cov}
 use Rattle.history.specs.Lists.{any-left, any-right, all-app, all-to}
 use Rattle.encoding.specs.Runs.{Longest}
 use Rattle.encoding.specs.Edges.{is-of, of-is}

@@ -2,5 +2,6 @@
 pub mod Segments
 pub mod Runs
 pub mod Promises
+pub mod Sized
 pub mod Sweep
 pub mod Collected

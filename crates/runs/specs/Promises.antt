@@ -1,9 +1,8 @@
 -- What the functions of the sweep promise: each for every course of output parents U and every list F of edges finished so far.
 use mathlib.Core.Path.{_≡_}
-use mathlib.Core.Bool.{Bool, true, false}
+use mathlib.Core.Bool.{true, false}
 use mathlib.Core.List.{List, [], _∷_, _++_}
-use mathlib.Core.Logic.{_⊎_}
-use Prim.Native.Nat.{ℕ, _<_, _≤_}
+use Prim.Native.Nat.{ℕ, _<_}
 use lib.Dec.{eqb}
 use lib.ListN.{length}
 use Rattle.meaning.specs.Words.{at}
@@ -33,14 +32,14 @@ pub record RowSettled (x c : ℕ) (up : List ℕ) (O : OpenRuns) (D : Store) (O'
   pub others : (d : ℕ) → (d ≡ c → ⊥) → at (O' .par) d ≡ at (O .par) d
   pub settles : (U : ℕ → Par) (L : ℕ) (F : List Edge) → Settling U (length up) L x F (at (O .left)) (at (O .par)) → at up c ≡ code (U x c) → Stored (length up) F D → (F' : List Edge) × Settling U (length up) L x F' (at (O' .left)) (at (O' .par)) × Stored (length up) F' D'
 
--- every row whose output parent is another than before is among the first k rows of touched
-abbrev pub Touched : List ℕ → List ℕ → ℕ → List ℕ → Type 0
-Touched up par k touched = (c : ℕ) → c < length up → (at par c ≡ at up c → ⊥) → (i : ℕ) × (i < k) × (at touched i ≡ c)
+-- every row of n whose output parent is another than before is among the first k rows of touched
+abbrev pub Touched : ℕ → List ℕ → List ℕ → ℕ → List ℕ → Type 0
+Touched n up par k touched = (c : ℕ) → c < n → (at par c ≡ at up c → ⊥) → (i : ℕ) × (i < k) × (at touched i ≡ c)
 
 -- the change at x is dealt with
 pub record ChangeSettled (x : ℕ) (up touched : List ℕ) (k : ℕ) (O : OpenRuns) (D : Store) (O' : OpenRuns) (D' : Store) : Type 0 where
   pub runs : Opened (length up) O'
-  pub settles : (U : ℕ → Par) (L : ℕ) (F : List Edge) → Swept U (length up) L x F (at (O .left)) (at (O .par)) → ((c : ℕ) → c < length up → at up c ≡ code (U x c)) → Touched up (O .par) k touched → Stored (length up) F D → (F' : List Edge) × Settled U (length up) L x F' (at (O' .left)) (at (O' .par)) × Stored (length up) F' D'
+  pub settles : (U : ℕ → Par) (L : ℕ) (F : List Edge) → Swept U (length up) L x F (at (O .left)) (at (O .par)) → ((c : ℕ) → c < length up → at up c ≡ code (U x c)) → Touched (length up) up (O .par) k touched → Stored (length up) F D → (F' : List Edge) × Settled U (length up) L x F' (at (O' .left)) (at (O' .par)) × Stored (length up) F' D'
 
 -- the edge that the open run of c, from s on with the cell o, leaves when it ends at x: none where it is of none
 unfoldable pub leaves : ℕ → ℕ → ℕ → ℕ → List Edge

@@ -1,6 +1,5 @@
 -- Open runs and finished edges of a sweep along the chromosome: what the lent columns hold when all positions below x are dealt with.
 use mathlib.Core.Path.{_≡_}
-use mathlib.Core.Bool.{Bool, true, false}
 use mathlib.Core.List.{List, [], _∷_}
 use mathlib.Core.Option.{Option, none, some}
 use mathlib.Core.Logic.{_⊎_}

@@ -1,10 +1,10 @@
 -- The sweep begins with nothing and goes on from a change to the next; what the store holds at its beginning and its end.
 use mathlib.Core.Path.{_≡_, refl, sym, ap, _∙_}
 use mathlib.Core.Bool.{Bool, true, false}
-use mathlib.Core.List.{List, [], _∷_}
-use mathlib.Core.Option.{Option, none, some}
+use mathlib.Core.List.{List, []}
+use mathlib.Core.Option.{some}
 use mathlib.Core.Logic.{_⊎_, inl, inr, ⊎-elim}
-use Prim.Native.Nat.{ℕ, suc, _<_, _≤_}
+use Prim.Native.Nat.{ℕ, _<_, _≤_}
 use native.Mathlib.Omega.{arith}
 use lib.Dec.{ltb}
 use lib.ListN.{length, getD}
@@ -14,8 +14,8 @@ use Rattle.meaning.specs.Words.{at, rows}
 use Rattle.meaning.specs.Rows.{Edge}
 use Rattle.meaning.specs.Forest.{Par}
 use Rattle.laws.specs.Counting.{length-rows, get-rows}
-use Rattle.laws.specs.Facts.{Any, All, done, also, Cov}
-use Rattle.runs.specs.Runs.{no-row, code, Store, no-edge, Cell, Stored, Run, Once, none-twice, Kept, Swept, Settled}
+use Rattle.laws.specs.Facts.{done}
+use Rattle.runs.specs.Runs.{no-row, code, Store, no-edge, Cell, Stored, none-twice, Swept, Settled}
 
 -- before the first position nothing is finished and no run is of a parent
 pub swept-start : (U : ℕ → Par) (n L : ℕ) (left par : ℕ → ℕ) → ((y c p : ℕ) → c < n → U y c ≡ some p → p ≡ no-row → ⊥) → ((c : ℕ) → c < n → left c ≡ 0) → ((c : ℕ) → c < n → par c ≡ no-row) → Swept U n L 0 [] left par

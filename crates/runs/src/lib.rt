@@ -1,11 +1,10 @@
 // The runs of the sweep: open runs are cut at each change, and their fronts are the finished edges.
 ghost use mathlib.Core.Path.{_≡_};
 ghost use Prim.Native.Nat.{ℕ, _<_, _≤_};
-ghost use mathlib.Core.List.{List};
 ghost use lib.ListN.{length};
 ghost use Rattle.meaning.specs.Words.{at};
 ghost use Rattle.runs.specs.Segments.{cutAt};
-ghost use Rattle.runs.specs.Runs.{OpenRuns, Store, Room, Opened};
+ghost use Rattle.runs.specs.Runs.{Room, Opened};
 ghost use Rattle.runs.specs.Promises.{edgeOf, Pushed, Ready, RowSettled, ChangeSettled, RowClosed, Closed};
 
 // 01: "ancestral segments: a left, a right and an output row". Here the row is the parent row of a run.

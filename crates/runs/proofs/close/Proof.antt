@@ -7,9 +7,6 @@ use native.Mathlib.Omega.{arith}
 use borrow.Author.Needs.{needs}
 use Rattle.runs.proofs.close.Statement.{statement}
 use Rattle.runs.proofs.close.Tie as tie
-use Rattle.runs.proofs.close.Reads as reads
-use Rattle.runs.proofs.close.Lts as lts
-use Rattle.runs.proofs.close_row.Reads as close-row-reads
 
 abbrev Inv-loop : tie.InvT-loop
 Inv-loop len open-left open-par fl₀ fr₀ fp₀ fc₀ stood₀ count made₀ c₀ fl fr fp fc stood made c =

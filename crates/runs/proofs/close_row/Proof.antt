@@ -1,12 +1,8 @@
 -- `runs::close_row` meets its contract: a run of a parent is stored as a finished edge.
 use Rattle.runs.proofs.Closing.{row-none, row-pushed, close-ready}
-use native.Mathlib.Omega.{arith}
 use borrow.Author.Needs.{needs}
 use Rattle.runs.proofs.close_row.Statement.{statement}
 use Rattle.runs.proofs.close_row.Tie as tie
-use Rattle.runs.proofs.close_row.Reads as reads
-use Rattle.runs.proofs.close_row.Lts as lts
-use Rattle.runs.proofs.push.Reads as push-reads
 
 mul-row : tie.Need-mul-row
 mul-row c = search needs

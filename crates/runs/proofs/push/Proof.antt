@@ -1,11 +1,8 @@
 -- `runs::push` meets its contract: the edge is stored where it fits, and counted once over where it does not.
 use Rattle.runs.proofs.Storing.{stored-written, stored-over}
-use native.Mathlib.Omega.{arith}
 use borrow.Author.Needs.{needs}
 use Rattle.runs.proofs.push.Statement.{statement}
 use Rattle.runs.proofs.push.Tie as tie
-use Rattle.runs.proofs.push.Reads as reads
-use Rattle.runs.proofs.push.Lts as lts
 
 cast-stood : tie.Need-cast-stood
 cast-stood c = search needs

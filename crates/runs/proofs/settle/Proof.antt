@@ -5,9 +5,6 @@ use native.Mathlib.Omega.{arith}
 use borrow.Author.Needs.{needs}
 use Rattle.runs.proofs.settle.Statement.{statement}
 use Rattle.runs.proofs.settle.Tie as tie
-use Rattle.runs.proofs.settle.Reads as reads
-use Rattle.runs.proofs.settle.Lts as lts
-use Rattle.runs.proofs.settle_row.Reads as settle-row-reads
 
 abbrev Inv-loop : tie.InvT-loop
 Inv-loop x len touched nt up open-left₀ open-par₀ fl₀ fr₀ fp₀ fc₀ stood₀ count made₀ i₀ open-left open-par fl fr fp fc stood made i =

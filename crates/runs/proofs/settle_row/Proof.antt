@@ -3,14 +3,9 @@ use mathlib.Core.Path.{ap}
 use Rattle.runs.specs.declared.Cut.{Cut}
 use Rattle.runs.specs.Promises.{edgeOf}
 use Rattle.runs.proofs.Settling.{push-ready, row-same, row-opened, row-turned}
-use native.Mathlib.Omega.{arith}
 use borrow.Author.Needs.{needs}
 use Rattle.runs.proofs.settle_row.Statement.{statement}
 use Rattle.runs.proofs.settle_row.Tie as tie
-use Rattle.runs.proofs.settle_row.Reads as reads
-use Rattle.runs.proofs.settle_row.Lts as lts
-use Rattle.runs.proofs.Segment.cut.Reads as cut-reads
-use Rattle.runs.proofs.push.Reads as push-reads
 
 mul-was : tie.Need-mul-was
 mul-was c = search needs
