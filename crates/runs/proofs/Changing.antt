@@ -1,0 +1,72 @@
+-- The change at x is dealt with row by row: what holds after the first rows of those touched, and at the end.
+use mathlib.Core.Path.{_≡_, refl, sym, ap, _∙_}
+use mathlib.Core.List.{List}
+use mathlib.Core.Logic.{_⊎_, inr, ⊎-elim}
+use Prim.Native.Nat.{ℕ, _+_, _<_, _≤_}
+use native.Mathlib.Omega.{arith}
+use lib.ListN.{length}
+use Rattle.meaning.specs.Words.{at}
+use Rattle.meaning.specs.Rows.{Edge}
+use Rattle.meaning.specs.Forest.{Par}
+use Rattle.laws.specs.Bools.{eq?}
+use Rattle.runs.specs.Runs.{code, OpenRuns, Store, Room, Settling, Stored}
+use Rattle.runs.specs.Promises.{Ready, RowSettled, Touched, ChangeSettled}
+
+-- columns that keep their lengths keep their room
+pub room-kept : (n : ℕ) (D D' : Store) → Room n D → length (D' .left) ≡ length (D .left) → length (D' .right) ≡ length (D .right) → length (D' .parent) ≡ length (D .parent) → length (D' .child) ≡ length (D .child) → length (D' .stood) ≡ length (D .stood) → Room n D'
+room-kept n D D' r a b c d e = record {
+  right-long = b ∙ r .right-long ∙ sym a;
+  parent-long = c ∙ r .parent-long ∙ sym a;
+  child-long = d ∙ r .child-long ∙ sym a;
+  stood-long = e ∙ r .stood-long;
+}
+
+-- the first i rows of touched are dealt with: from O₀ and D₀ the columns came to O and D
+pub record Underway (x : ℕ) (up touched : List ℕ) (O₀ : OpenRuns) (D₀ : Store) (i : ℕ) (O : OpenRuns) (D : Store) : Type 0 where
+  pub ready : Ready up O D
+  pub long : length (D .left) ≡ length (D₀ .left)
+  pub left-over : (c : ℕ) → c < length up → (at (O .par) c ≡ at up c → ⊥) → (at (O₀ .par) c ≡ at up c → ⊥) × ((j : ℕ) → j < i → at touched j ≡ c → ⊥)
+  pub settles : (U : ℕ → Par) (L : ℕ) (F : List Edge) → Settling U (length up) L x F (at (O₀ .left)) (at (O₀ .par)) → ((c : ℕ) → c < length up → at up c ≡ code (U x c)) → Stored (length up) F D₀ → (F' : List Edge) × Settling U (length up) L x F' (at (O .left)) (at (O .par)) × Stored (length up) F' D
+
+module _ (x : ℕ) (up touched : List ℕ) (O₀ : OpenRuns) (D₀ : Store) where
+  pub under-start : Ready up O₀ D₀ → Underway x up touched O₀ D₀ 0 O₀ D₀
+  under-start r = record {
+    ready = r;
+    long = refl;
+    left-over = λ c l n. (n, λ j k q. absurd (omega arith));
+    settles = λ U L F s u t. (F, s, t);
+  }
+
+  -- one row more
+  pub under-next : (i : ℕ) (O O' : OpenRuns) (D D' : Store) → Underway x up touched O₀ D₀ i O D → at touched i < length up → RowSettled x (at touched i) up O D O' D' → Room (length up) D' → length (D' .left) ≡ length (D .left) → Underway x up touched O₀ D₀ (i + 1) O' D'
+  under-next i O O' D D' w cn s room long = record {
+    ready = record { runs = s .runs; room = room; rows = w .ready .rows };
+    long = long ∙ w .long;
+    left-over = λ d l n. ⊎-elim
+        (λ (q : d ≡ at touched i). absurd (n (ap (at (O' .par)) q ∙ s .here ∙ ap (at up) (sym q))))
+        (λ (q : d ≡ at touched i → ⊥).
+        let o : _ = w .left-over d l (λ e. n (s .others d q ∙ e)) in
+        (o .0, λ j k e. ⊎-elim (λ (z : j ≡ i). q (sym e ∙ ap (at touched) z)) (λ (z : j ≡ i → ⊥). o .1 j (omega arith) e) (eq? j i)))
+        (eq? d (at touched i));
+    settles = λ U L F a u t.
+        let r : _ = w .settles U L F a u t in
+        s .settles U L (r .0) (r .1) (u (at touched i) cn) (r .2);
+  }
+
+  -- all rows touched are dealt with, and no other has another output parent
+  pub under-end : (k i : ℕ) (O : OpenRuns) (D : Store) → k ≤ i → Underway x up touched O₀ D₀ i O D → ChangeSettled x up touched k O₀ D₀ O D
+  under-end k i O D l w = record {
+    runs = w .ready .runs;
+    settles = λ U L F a u t b.
+        let r : _ = w .settles U L F (record { kept = a .kept; either = λ c m. inr (a .behind c m) }) u b in
+        (r .0, record { kept = r .1 .kept; current = λ c m. current t c m ∙ u c m }, r .2);
+  }
+    where
+      current : Touched (length up) up (O₀ .par) k touched → (c : ℕ) → c < length up → at (O .par) c ≡ at up c
+      current t c m = ⊎-elim
+          (λ (q : at (O .par) c ≡ at up c). q)
+          (λ (q : at (O .par) c ≡ at up c → ⊥).
+          let o : _ = w .left-over c m q in
+          let z : _ = t c m (o .0) in
+          absurd (o .1 (z .0) (omega (arith, z .1)) (z .2)))
+          (eq? (at (O .par) c) (at up c))
