@@ -144,7 +144,7 @@ module _ (m : Limits) (L : ℕ) (T : Tables) (S : List ℕ) (g : Ground m L T S)
   climbed-inside x u p l (some q) e k = near-inside n (forestRow (T .edges) x) (rows-in x) (standsRow (T .edges) n SR x) Ages q p (rows-in x u q l e) (rw (e, up) at k) .0
 
   -- an output parent is a row
-  up-inside : (x u p : ℕ) → u < n → upRow (T .edges) n SR x u ≡ some p → p < n
+  pub up-inside : (x u p : ℕ) → u < n → upRow (T .edges) n SR x u ≡ some p → p < n
   unfolding upRow drawn
   up-inside x u p l h = inside (standsRow (T .edges) n SR x u) refl
     where
