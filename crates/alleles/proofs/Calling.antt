@@ -1,4 +1,4 @@
--- What the allele call answers, from what its helpers found.
+-- What the allele call answers, from the row that was found.
 use mathlib.Core.Path.{_≡_, sym, ap, _∙_}
 use mathlib.Core.Bool.{true}
 use Prim.Native.Nat.{ℕ, _<_}
