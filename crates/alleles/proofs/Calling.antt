@@ -1,20 +1,19 @@
--- What the allele call answers, from what its helpers found.
-use mathlib.Core.Path.{_≡_, refl, sym, ap, _∙_}
-use mathlib.Core.Bool.{Bool, true, false}
-use mathlib.Core.Option.{Option, none, some}
-use Prim.Native.Nat.{ℕ, _<_, _≤_}
+-- What the allele call answers, from the row that was found.
+use mathlib.Core.Path.{_≡_, sym, ap, _∙_}
+use mathlib.Core.Bool.{true}
+use Prim.Native.Nat.{ℕ, _<_}
 use native.Mathlib.Omega.{arith}
 use lib.ListN.{length}
 use Rattle.meaning.specs.Words.{at, mem}
 use Rattle.meaning.specs.Rows.{Tables, recordOf}
-use Rattle.meaning.specs.Answer.{Answer, Stated, answer, done}
+use Rattle.meaning.specs.Answer.{Stated, answer, done}
 use Rattle.meaning.specs.Allele.{alleleAt}
 use Rattle.laws.specs.Members.{at-mem}
 use Rattle.alleles.specs.declared.Found.{Found}
 use Rattle.alleles.specs.declared.Found.the-variants.{At, Nothing}
 use Rattle.alleles.specs.Marks.{foundOf, rowOf}
 use Rattle.alleles.specs.Reading.{Readable}
-use Rattle.alleles.specs.Call.{readAllele, no-site, no-birth, reads}
+use Rattle.alleles.specs.Call.{readAllele, no-birth, reads}
 use Rattle.alleles.proofs.Finding.{row-at, row-none}
 
 module _ (T : Tables) (ok : Readable T) (b : ℕ) (r : Found) (e : foundOf r ≡ rowOf (T .nodes .birth) b) where

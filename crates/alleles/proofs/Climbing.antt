@@ -5,7 +5,7 @@ use mathlib.Core.List.{List, [], _∷_}
 use mathlib.Core.Option.{Option, none, some}
 use Prim.Native.Nat.{ℕ, zero, suc, _<_, _≤_}
 use native.Mathlib.Omega.{arith}
-use lib.Dec.{eqb, ltb}
+use lib.Dec.{ltb}
 use lib.ListN.{length}
 use borrow.Author.Tests.{eq-eqb, ne-eqb}
 use Rattle.meaning.specs.Words.{at, count, rows}
@@ -14,7 +14,7 @@ use Rattle.laws.specs.Counting.{length-rows}
 use Rattle.bridge.specs.Rename.{near-here, near-top, near-step, near-inside}
 use Rattle.ancestry.specs.Column.{no-row, parOf, older}
 use Rattle.ancestry.specs.Older.{older-falls}
-use Rattle.ancestry.specs.Marks.{marked, Upward}
+use Rattle.ancestry.specs.Marks.{marked}
 use Rattle.ancestry.specs.Coded.{cell-none, cell-some}
 use Rattle.alleles.specs.declared.Found.{Found}
 use Rattle.alleles.specs.declared.Found.the-variants.{At, Nothing}

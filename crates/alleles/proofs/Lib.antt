@@ -3,3 +3,4 @@ pub mod Filling
 pub mod Finding
 pub mod Climbing
 pub mod Calling
+pub mod Whole

@@ -7,18 +7,18 @@ use Prim.Native.Nat.{ℕ, _<_, _≤_}
 use native.Mathlib.Omega.{arith}
 use lib.Dec.{eqb}
 use lib.ListN.{length}
-use Rattle.meaning.specs.Words.{at, rows}
-use Rattle.meaning.specs.Rows.{EdgeColumns, MutationColumns, Tables, Record, recordOf, edgesOf, sitesOf, mutsOf, posOf, stateOf}
+use Rattle.meaning.specs.Words.{at}
+use Rattle.meaning.specs.Rows.{MutationColumns, Tables, Record, recordOf, edgesOf, sitesOf, mutsOf, posOf, stateOf}
 use Rattle.meaning.specs.Forest.{Par, Ages, parentIn, near}
 use Rattle.meaning.specs.Allele.{carries, lastState, alleleAt}
 use Rattle.laws.specs.Counting.{length-rows, get-rows}
 use Rattle.bridge.specs.Rename.{mapOption, Renamed, near-names, near-inside}
-use Rattle.bridge.specs.Columns.{Apart, Within, parent-names}
+use Rattle.bridge.specs.Columns.{Within, parent-names}
 use Rattle.bridge.specs.Sites.{pos-at, state-at, carries-names, last-names}
-use Rattle.ancestry.specs.Column.{no-row, code, parOf, parentRow, Rising}
-use Rattle.ancestry.specs.Marks.{marked, Upward}
+use Rattle.ancestry.specs.Column.{no-row, code, parOf, parentRow}
+use Rattle.ancestry.specs.Marks.{marked}
 use Rattle.ancestry.specs.Coded.{parents-coded, parents-upward, parent-rises}
-use Rattle.alleles.specs.Marks.{mark, marksOf, statesOf, Naming}
+use Rattle.alleles.specs.Marks.{mark, marksOf, statesOf}
 use Rattle.alleles.specs.Reading.{Climbable, carriedBy, Fillable, Opened, Readable}
 
 -- ---- the columns, cell by cell

@@ -1,9 +1,9 @@
 -- A row that is looked for, and the marks and last states of a site's mutations by node rows.
 use mathlib.Core.Path.{_≡_}
 use mathlib.Core.Bool.{Bool, true, false}
-use mathlib.Core.List.{List, [], _∷_}
+use mathlib.Core.List.{List}
 use mathlib.Core.Option.{Option, none, some}
-use Prim.Native.Nat.{ℕ, _<_, _≤_}
+use Prim.Native.Nat.{ℕ, _<_}
 use lib.ListN.{length}
 use Rattle.meaning.specs.Words.{at, mem, indexOf, rows}
 use Rattle.meaning.specs.Rows.{MutationColumns, mutsOf}

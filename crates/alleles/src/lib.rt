@@ -5,14 +5,15 @@ ghost use lib.ListN.{length, replicate, set};
 ghost use Rattle.meaning.specs.Words.{at, rows};
 ghost use Rattle.meaning.specs.Rows.{EdgeColumns, MutationColumns, Tables, recordOf};
 ghost use Rattle.meaning.specs.Forest.{near};
-ghost use Rattle.meaning.specs.Answer.{alleleOf};
-ghost use Rattle.meaning.specs.Allele.{alleleAt};
+ghost use Rattle.meaning.specs.Answer.{alleleOf, limits};
+ghost use Rattle.meaning.specs.Allele.{alleleAt, allele};
 ghost use Rattle.ancestry.specs.Column.{no-row, older, parOf};
 ghost use Rattle.ancestry.specs.Marks.{marked};
 ghost use Rattle.alleles.specs.Call.{readAllele};
 ghost use Rattle.alleles.specs.Marks.{foundOf, rowOf, markAfter, stateAfter, Naming, marksOf, statesOf};
 ghost use Rattle.alleles.specs.Reading.{Climbable, carriedBy, Fillable, Opened, Readable};
 use meaning::Allele;
+use meaning::Checked;
 use meaning::Refusal;
 
 // A node row that is looked for.
@@ -218,5 +219,57 @@ fn read_allele(
             u,
         )),
         Found::Nothing => Allele::Refused(Refusal::NoBirth),
+    }
+}
+
+// 01's allele call: the state that the fish b carries at site row i, or the refusal.
+pub fn allele(
+    len: u32,
+    time: &[u32],
+    birth: &[u32],
+    left: &[u32],
+    right: &[u32],
+    parent: &[u32],
+    child: &[u32],
+    position: &[u32],
+    ancestral: &[u8],
+    site: &[u32],
+    node: &[u32],
+    derived: &[u8],
+    i: u32,
+    b: u32,
+) -> Allele
+    ensures { λ r. ⌜ alleleOf r ≡ allele limits len (record { nodes = record { time = now (time .entry); birth = now (birth .entry) }; edges = record { left = now (left .entry); right = now (right .entry); parent = now (parent .entry); child = now (child .entry) }; sites = record { position = now (position .entry); ancestral = now (ancestral .entry) }; muts = record { site = now (site .entry); node = now (node .entry); derived = now (derived .entry) } }) i b ⌝ }
+{
+    match checker::check_tables(
+        len,
+        time,
+        birth,
+        left,
+        right,
+        parent,
+        child,
+        position,
+        ancestral,
+        site,
+        node,
+        derived,
+    ) {
+        Checked::Refused(r) => Allele::Refused(r),
+        Checked::Sound => read_allele(
+            time,
+            birth,
+            left,
+            right,
+            parent,
+            child,
+            position,
+            ancestral,
+            site,
+            node,
+            derived,
+            i,
+            b,
+        ),
     }
 }

@@ -1,15 +1,15 @@
 -- The edges' columns read by rows and read by births: one forest under two names, so rule 10 finds the same rows.
-use mathlib.Core.Path.{_≡_, refl, sym, ap, ap₂, _∙_}
+use mathlib.Core.Path.{_≡_, refl, sym, ap, _∙_}
 use mathlib.Core.Bool.{Bool, true, false}
-use mathlib.Core.List.{List, []}
-use mathlib.Core.Option.{Option, none, some}
+use mathlib.Core.List.{List}
+use mathlib.Core.Option.{none, some}
 use Prim.Native.Nat.{ℕ, zero, suc, _+_, _<_, _≤_}
 use native.Mathlib.Omega.{arith}
 use lib.Dec.{eqb, leb, ltb}
 use lib.ListN.{length}
 use Rattle.meaning.specs.Words.{and, at, rowsFrom, rows, anyBelow, lowestFrom, lowest}
 use Rattle.meaning.specs.Rows.{Edge, EdgeColumns, MutationColumns, edgesOf}
-use Rattle.meaning.specs.Forest.{Par, Ages, holds, parentIn, above, ancestor, near}
+use Rattle.meaning.specs.Forest.{holds, parentIn, above, ancestor, near}
 use Rattle.meaning.specs.Check.{overtakes, mutationAbove}
 use Rattle.laws.specs.Bools.{none-some, some-inj}
 use Rattle.laws.specs.Counting.{below-hit, below-miss, below-none}

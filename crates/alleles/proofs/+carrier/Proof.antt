@@ -1,6 +1,4 @@
 -- `alleles::carrier` meets its contract. The measure is the number of rows older than u.
-use mathlib.Core.Path.{_≡_, sym, _∙_}
-use lib.ListN.{length}
 use Rattle.ancestry.specs.Column.{older}
 use Rattle.alleles.proofs.Climbing.{lt-eq, climb-here, climb-top, climb-falls, climb-next, climb-on}
 use native.Mathlib.Omega.{arith}

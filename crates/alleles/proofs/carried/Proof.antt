@@ -4,9 +4,6 @@ use Rattle.alleles.proofs.Climbing.{found-row, found-state, found-nothi
 use borrow.Author.Needs.{needs}
 use Rattle.alleles.proofs.carried.Statement.{statement}
 use Rattle.alleles.proofs.carried.Tie as tie
-use Rattle.alleles.proofs.carried.Reads as reads
-use Rattle.alleles.proofs.carried.Lts as lts
-use Rattle.alleles.proofs.carrier.Reads as carrier-reads
 
 carrier-requires : tie.Need-carrier-requires
 carrier-requires c κs = search needs

@@ -1,5 +1,5 @@
 -- `alleles::clear` meets its contract: the cells passed hold the value, the others are as they were.
-use mathlib.Core.Path.{_≡_, refl, sym, ap, _∙_}
+use mathlib.Core.Path.{_≡_, ap, _∙_}
 use mathlib.Core.List.{List, _++_}
 use Prim.Native.Nat.{ℕ, _<_, _≤_, _-_}
 use lib.ListN.{length, drop, set, replicate}
@@ -9,8 +9,6 @@ use native.Mathlib.Omega.{arith}
 use borrow.Author.Needs.{needs}
 use Rattle.alleles.proofs.clear.Statement.{statement}
 use Rattle.alleles.proofs.clear.Tie as tie
-use Rattle.alleles.proofs.clear.Reads as reads
-use Rattle.alleles.proofs.clear.Lts as lts
 
 abbrev Inv-loop : tie.InvT-loop
 Inv-loop column₀ value i₀ column i = (i ≤ length column₀) × (length column ≡ length column₀) × (column ≡ replicate i value ++ drop i column₀)

@@ -1,18 +1,15 @@
 -- `alleles::fill` meets its contract: with the mutations that are left, the columns come to what they are to be.
-use mathlib.Core.Path.{_≡_, refl, sym, ap, _∙_}
+use mathlib.Core.Path.{_∙_}
 use mathlib.Core.List.{List}
 use mathlib.Core.Logic.{⊎-elim}
-use Prim.Native.Nat.{ℕ, _<_, _≤_, _-_}
-use lib.ListN.{length, getD}
+use Prim.Native.Nat.{ℕ, _≤_, _-_}
+use lib.ListN.{length}
 use Rattle.meaning.specs.Rows.{MutationColumns}
 use Rattle.alleles.proofs.Filling.{Underway, became, begin, skip, put, marks-end, states-end}
 use native.Mathlib.Omega.{arith}
 use borrow.Author.Needs.{needs}
 use Rattle.alleles.proofs.fill.Statement.{statement}
 use Rattle.alleles.proofs.fill.Tie as tie
-use Rattle.alleles.proofs.fill.Reads as reads
-use Rattle.alleles.proofs.fill.Lts as lts
-use Rattle.alleles.proofs.leave_state.Reads as leave-state-reads
 
 abbrev columns : List ℕ → List ℕ → List ℕ → MutationColumns
 columns s n d = record { site = s; node = n; derived = d }

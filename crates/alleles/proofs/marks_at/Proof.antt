@@ -2,14 +2,9 @@
 use mathlib.Core.Path.{sym, _∙_}
 use lib.ListN.{length}
 use Rattle.alleles.proofs.Filling.{cleared-long, longer, marks-from, states-from}
-use native.Mathlib.Omega.{arith}
 use borrow.Author.Needs.{needs}
 use Rattle.alleles.proofs.marks_at.Statement.{statement}
 use Rattle.alleles.proofs.marks_at.Tie as tie
-use Rattle.alleles.proofs.marks_at.Reads as reads
-use Rattle.alleles.proofs.marks_at.Lts as lts
-use Rattle.alleles.proofs.clear.Reads as clear-reads
-use Rattle.alleles.proofs.fill.Reads as fill-reads
 
 clear-requires : tie.Need-clear-requires
 clear-requires c κs = search needs

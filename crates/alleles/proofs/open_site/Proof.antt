@@ -2,14 +2,9 @@
 use mathlib.Core.Path.{sym, ap, _∙_}
 use Rattle.alleles.specs.Marks.{marksOf, statesOf}
 use Rattle.alleles.proofs.Filling.{longer}
-use native.Mathlib.Omega.{arith}
 use borrow.Author.Needs.{needs}
 use Rattle.alleles.proofs.open_site.Statement.{statement}
 use Rattle.alleles.proofs.open_site.Tie as tie
-use Rattle.alleles.proofs.open_site.Reads as reads
-use Rattle.alleles.proofs.open_site.Lts as lts
-use Rattle.alleles.proofs.marks_at.Reads as marks-at-reads
-use Rattle.ancestry.proofs.parents_at.Reads as parents-at-reads
 
 parents-at-requires : tie.Need-parents-at-requires
 parents-at-requires c κs = search needs

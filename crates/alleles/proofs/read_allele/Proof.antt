@@ -2,14 +2,9 @@
 use mathlib.Core.Path.{sym}
 use Rattle.alleles.specs.Call.{no-site}
 use Rattle.alleles.proofs.Calling.{row-exists, answer-state, answer-no-birth}
-use native.Mathlib.Omega.{arith}
 use borrow.Author.Needs.{needs}
 use Rattle.alleles.proofs.read_allele.Statement.{statement}
 use Rattle.alleles.proofs.read_allele.Tie as tie
-use Rattle.alleles.proofs.read_allele.Reads as reads
-use Rattle.alleles.proofs.read_allele.Lts as lts
-use Rattle.alleles.proofs.row_of.Reads as row-of-reads
-use Rattle.alleles.proofs.state_of.Reads as state-of-reads
 
 returns : tie.Need-returns
 returns c = λ L. sym (no-site L _ _ _ (c .if1 .taken))

@@ -1,6 +1,5 @@
 -- `alleles::row_of` meets its contract: no row passed has the birth number.
-use mathlib.Core.Path.{_≡_, refl, sym, ap, _∙_}
-use mathlib.Core.List.{List}
+use mathlib.Core.Path.{_≡_}
 use Prim.Native.Nat.{ℕ, _<_, _≤_, _-_}
 use lib.ListN.{length, getD}
 use borrow.Author.Count.{below-more}
@@ -9,8 +8,6 @@ use native.Mathlib.Omega.{arith}
 use borrow.Author.Needs.{needs}
 use Rattle.alleles.proofs.row_of.Statement.{statement}
 use Rattle.alleles.proofs.row_of.Tie as tie
-use Rattle.alleles.proofs.row_of.Reads as reads
-use Rattle.alleles.proofs.row_of.Lts as lts
 
 abbrev Inv-loop : tie.InvT-loop
 Inv-loop birth b i₀ i = (i ≤ length birth) × ((k : ℕ) → k < i → getD birth k 0 ≡ b → ⊥)

@@ -1,14 +1,9 @@
 -- `alleles::state_of` meets its contract: the columns of the site tell the allele.
 use mathlib.Core.Path.{refl, _∙_}
 use Rattle.alleles.specs.ByRows.{fillable, climbs, carried-allele}
-use native.Mathlib.Omega.{arith}
 use borrow.Author.Needs.{needs}
 use Rattle.alleles.proofs.state_of.Statement.{statement}
 use Rattle.alleles.proofs.state_of.Tie as tie
-use Rattle.alleles.proofs.state_of.Reads as reads
-use Rattle.alleles.proofs.state_of.Lts as lts
-use Rattle.alleles.proofs.carried.Reads as carried-reads
-use Rattle.alleles.proofs.open_site.Reads as open-site-reads
 
 mul-x : tie.Need-mul-x
 mul-x c = search needs

@@ -1,0 +1,55 @@
+-- The whole allele call: the check of the tables, and then 41, 42 or the state.
+use mathlib.Core.Path.{_≡_, sym, ap, _∙_}
+use mathlib.Core.Bool.{Bool, true, false}
+use Prim.Native.Nat.{ℕ}
+use lib.ListN.{length}
+use Rattle.meaning.specs.declared.Refusal.{Refusal}
+use Rattle.meaning.specs.declared.Checked.{Checked}
+use Rattle.meaning.specs.declared.Checked.the-variants as checked
+use Rattle.meaning.specs.Rows.{Tables, recordOf}
+use Rattle.meaning.specs.Answer.{Answer, Stated, done, limits, refusalOf, checkedOf}
+use Rattle.meaning.specs.Check.{checkThen}
+use Rattle.meaning.specs.Allele.{alleleAt, alleleAnswer, allele}
+use Rattle.checker.specs.Found.{TablesSound}
+use Rattle.checker.proofs.After.{Hands, hands, tables-after, refused, stops, goes-on, was-sound}
+use Rattle.checker.proofs.Rows.{rising, lined, apart}
+use Rattle.checker.proofs.Sound.{tables-sound}
+use Rattle.alleles.specs.Reading.{Readable}
+use Rattle.alleles.specs.Call.{stated, named, readAllele}
+
+-- tables that the check does not refuse can be read
+readable : (L : ℕ) (T : Tables) → TablesSound limits L T → Readable T
+readable L T s =
+    let m : _ = lined (length (T .sites .position)) (length (T .nodes .time)) (T .muts) (s .shaped .node-long) (s .sites .whole) in
+    record {
+      few = s .sized .nodes;
+      births-long = s .shaped .birth-long;
+      once = apart (T .nodes .birth) (s .tree .once);
+      rising = rising L (T .nodes .time) (T .edges) (s .shaped .edges) (s .tree .whole);
+      states-long = s .shaped .ancestral-long;
+      naming = record { node-long = s .shaped .node-long; derived-long = s .shaped .derived-long; node-row = m .node-row };
+    }
+
+module _ (L : ℕ) (T : Tables) (c : Checked) (e : checkedOf c ≡ checkThen limits L T done) where
+  hand : Hands (checkThen limits L T)
+  hand = hands (checkThen limits L T) (tables-after limits L T)
+
+  pub sound-readable : c ≡ checked.Sound → Readable T
+  sound-readable q = readable L T (tables-sound limits L T done (was-sound (checkThen limits L T) hand c e q) .0)
+
+  module _ (i b : ℕ) where
+    -- the call's answer and state by the answer after the check
+    by-check : (a : Answer) → checkThen limits L T (named T i b) ≡ a → allele limits L T i b ≡ stated a (alleleAt (recordOf L T) i b)
+    unfolding allele alleleAnswer named stated
+    by-check a q = ap (λ (a : Answer). stated a (alleleAt (recordOf L T) i b)) q
+
+    stated-refused : (r : Refusal) → stated (refusalOf r) (alleleAt (recordOf L T) i b) ≡ record { answer = refusalOf r; state = 0 }
+    unfolding stated
+    stated-refused r = ap (λ (t : Bool). record { answer = refusalOf r; state = elim t [ true ↦ alleleAt (recordOf L T) i b | false ↦ 0 ] }) (refused r)
+
+    pub whole-refused : (r : Refusal) → c ≡ checked.Refused r → _≡_ {A = Stated} (record { answer = refusalOf r; state = 0 }) (allele limits L T i b)
+    whole-refused r q = sym (by-check (refusalOf r) (sym (stops (checkThen limits L T) hand c e r q (named T i b)) ∙ ap checkedOf q) ∙ stated-refused r)
+
+    pub whole-read : (s : Stated) → c ≡ checked.Sound → s ≡ readAllele L T i b → s ≡ allele limits L T i b
+    unfolding readAllele
+    whole-read s q f = f ∙ sym (by-check (named T i b) (goes-on (checkThen limits L T) hand c e q (named T i b)))
