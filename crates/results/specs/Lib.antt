@@ -1,0 +1,3 @@
+-- What is cleaned or joined passes the check, and has the properties that were published.
+pub mod Pairwise
+pub mod Facts
