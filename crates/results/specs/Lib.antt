@@ -1,3 +1,4 @@
 -- What is cleaned or joined passes the check, and has the properties that were published.
 pub mod Pairwise
 pub mod Facts
+pub mod Tabled
