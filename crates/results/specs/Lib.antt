@@ -2,3 +2,4 @@
 pub mod Pairwise
 pub mod Facts
 pub mod Tabled
+pub mod Cleaned
