@@ -3,3 +3,4 @@ pub mod Pairwise
 pub mod Facts
 pub mod Tabled
 pub mod Cleaned
+pub mod Cleaning
