@@ -4,3 +4,5 @@ pub mod Facts
 pub mod Tabled
 pub mod Cleaned
 pub mod Cleaning
+pub mod Batched
+pub mod BySite
