@@ -47,7 +47,7 @@ unfolding ofSite
 site-keeps i l x = all-filter (λ (m : Mutation). eqb (m .site) i) l x
 
 -- what holds of each member and all of another list
-cross-to : {A : Type 0} {P Q : A → Type 0} {W : A → A → Type 0} {l m : List A} → ((a b : A) → P a → Q b → W a b) → All P l → All Q m → All (λ a. All (W a) m) l
+pub cross-to : {A : Type 0} {P Q : A → Type 0} {W : A → A → Type 0} {l m : List A} → ((a b : A) → P a → Q b → W a b) → All P l → All Q m → All (λ a. All (W a) m) l
 cross-to h done y = done
 cross-to h (also p x) y = also (all-to (λ b q. h _ b p q) y) (cross-to h x y)
 

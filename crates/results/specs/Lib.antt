@@ -6,3 +6,4 @@ pub mod Cleaned
 pub mod Cleaning
 pub mod Batched
 pub mod BySite
+pub mod Joined

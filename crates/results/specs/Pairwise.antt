@@ -83,6 +83,15 @@ pub pairwise-app : {A : Type 0} {Q : A → A → Type 0} (l m : List A) → Pair
 pairwise-app [] m lone q h = q
 pairwise-app (a ∷ l) m (before-rest x p) q (also y h) = before-rest (all-app x y) (pairwise-app l m p q h)
 
+-- what holds of any two holds of each two of a list
+pub pairwise-any : {A : Type 0} (Q : A → A → Type 0) → ((a b : A) → Q a b) → (l : List A) → Pairwise Q l
+pairwise-any Q h [] = lone
+pairwise-any {A} Q h (a ∷ l) = before-rest (each l) (pairwise-any Q h l)
+  where
+    each : (k : List A) → All (Q a) k
+    each [] = done
+    each (b ∷ k) = also (h a b) (each k)
+
 -- ---- sorted lists
 
 all-insert : {A : Type 0} {Q : A → Type 0} (lt : A → A → Bool) (a : A) (l : List A) → Q a → All Q l → All Q (insert lt a l)
