@@ -7,3 +7,4 @@ pub mod Cleaning
 pub mod Batched
 pub mod BySite
 pub mod Joined
+pub mod Rows
