@@ -8,3 +8,5 @@ pub mod Batched
 pub mod BySite
 pub mod Joined
 pub mod Rows
+pub mod Back
+pub mod Joining
