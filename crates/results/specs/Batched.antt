@@ -1,6 +1,6 @@
 -- What a join's 22 to 26 find of a batch, as facts of the record and the batch that the columns mean.
-use mathlib.Core.Path.{_≡_, refl, sym, ap, subst, _∙_}
-use mathlib.Core.Bool.{Bool, true, false}
+use mathlib.Core.Path.{_≡_, ap, _∙_}
+use mathlib.Core.Bool.{true, false}
 use mathlib.Core.List.{List, _++_}
 use mathlib.Core.Logic.{_⊎_, inl, inr, ⊎-elim}
 use Prim.Native.Nat.{ℕ, _<_}
@@ -15,11 +15,10 @@ use Rattle.laws.specs.Bools.{clash}
 use Rattle.laws.specs.Members.{index-at, index-below}
 use Rattle.laws.specs.Counting.{length-rows}
 use Rattle.laws.specs.Facts.{Distinct, All}
-use Rattle.history.specs.Pairs.{Pairs}
 use Rattle.accepted.specs.Checked.{Sound}
-use Rattle.accepted.specs.Batches.{BatchSound, BatchEdgeRight}
+use Rattle.accepted.specs.Batches.{BatchSound}
 use Rattle.accepted.specs.Columns.{all-rows, birth-in, birth-out, births-once, pos-of}
-use Rattle.results.specs.Pairwise.{Pairwise, pairwise-rows, to-pairs}
+use Rattle.results.specs.Pairwise.{Pairwise, pairwise-rows}
 use Rattle.results.specs.Facts.{Right, Parted}
 
 -- 22 to 26

@@ -1,19 +1,18 @@
 -- A cleaned record has again what the checks 3 to 10 found of the record.
-use mathlib.Core.Path.{_≡_, refl, sym, ap, ap₂, subst, _∙_}
-use mathlib.Core.Bool.{Bool, true, false, not}
+use mathlib.Core.Path.{_≡_, refl, ap, ap₂, subst, _∙_}
+use mathlib.Core.Bool.{true}
 use mathlib.Core.List.{List, [], _∷_}
 use mathlib.Core.Option.{Option, none, some}
-use mathlib.Core.Logic.{_⊎_, inl, inr, ⊎-elim}
-use Prim.Native.Nat.{ℕ, _<_, _≤_}
+use Prim.Native.Nat.{ℕ, _<_}
 use native.Mathlib.Omega.{arith}
 use lib.ListN.{length}
-use Rattle.meaning.specs.Words.{at, mem, lex}
-use Rattle.meaning.specs.Rows.{Tables, Edge, Mutation, Record, births, recordOf, tablesOf, timeOf, posOf, edgeKey}
-use Rattle.meaning.specs.Forest.{Par, Rules, parentIn, is, drawn}
-use Rattle.meaning.specs.Clean.{moved, edgesFor, standsAt, forestAt, lowAt, kept, clean}
+use Rattle.meaning.specs.Words.{mem, lex}
+use Rattle.meaning.specs.Rows.{Edge, Mutation, Record, timeOf, posOf, edgeKey}
+use Rattle.meaning.specs.Forest.{Par, Rules, is, drawn}
+use Rattle.meaning.specs.Clean.{moved, standsAt, forestAt, lowAt, kept, clean}
 use Rattle.meaning.specs.Join.{keyed}
-use Rattle.laws.specs.Bools.{clash, eq?, some-inj}
-use Rattle.laws.specs.Facts.{In, All, done, also, CleanOk}
+use Rattle.laws.specs.Bools.{clash, some-inj}
+use Rattle.laws.specs.Facts.{All, done, also, CleanOk}
 use Rattle.forest.specs.Contract.{contract-ranked}
 use Rattle.forest.specs.Profile.{Profile}
 use Rattle.history.specs.Order.{lex-irrefl}
@@ -21,8 +20,8 @@ use Rattle.history.specs.Lists.{all-to, all-both}
 use Rattle.history.specs.Nodes.{time-same}
 use Rattle.history.specs.Encode.{edges-among}
 use Rattle.history.specs.Kept.{kept-distinct}
-use Rattle.history.specs.Pairs.{Pairs, put, pairs-moved}
-use Rattle.history.specs.Cleaned.{T, K, good-aged, drawn-at, drawn-ends, clean-row, clean-closed, clean-good}
+use Rattle.history.specs.Pairs.{Pairs, pairs-moved}
+use Rattle.history.specs.Cleaned.{T, K, good-aged, drawn-at, clean-row, clean-closed, clean-good}
 use Rattle.history.specs.Alleles.{clean-settled}
 use Rattle.encoding.specs.Runs.{Longest, left-not-after}
 use Rattle.encoding.specs.Edges.{byKey, Whole, is-of, edges-ascending, edges-whole}

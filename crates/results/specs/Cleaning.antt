@@ -1,15 +1,15 @@
 -- A cleaning that is not refused: its tables pass the check for any of their own nodes, every sample keeps its allele, and cleaning again changes nothing.
 use mathlib.Core.Path.{_≡_, refl, sym, ap, ap₂, _∙_}
 use mathlib.Core.Bool.{Bool, true, false, not}
-use mathlib.Core.List.{List, map}
-use Prim.Native.Nat.{ℕ, _<_, _≤_}
+use mathlib.Core.List.{List}
+use Prim.Native.Nat.{ℕ, _≤_}
 use lib.Dec.{leb}
 use lib.ListN.{length, length-map}
-use Rattle.meaning.specs.Words.{mem, rows, at}
-use Rattle.meaning.specs.Rows.{Tables, Site, Record, births, sitesOf, recordOf, tablesOf}
+use Rattle.meaning.specs.Words.{mem, at}
+use Rattle.meaning.specs.Rows.{Tables, Site, Record, sitesOf, recordOf, tablesOf}
 use Rattle.meaning.specs.Forest.{Rules}
-use Rattle.meaning.specs.Answer.{Answer, Limits, Stated, done, refuse, accepted}
-use Rattle.meaning.specs.Check.{check, checkThen}
+use Rattle.meaning.specs.Answer.{Answer, Limits, done, refuse, accepted}
+use Rattle.meaning.specs.Check.{check}
 use Rattle.meaning.specs.Clean.{kept, clean, cleaned, cleanAnswer}
 use Rattle.meaning.specs.Allele.{alleleAt, alleleAnswer, allele}
 use Rattle.laws.specs.Counting.{length-rows}
@@ -22,7 +22,7 @@ use Rattle.history.specs.Alleles.{clean-allele}
 use Rattle.history.specs.Tidy.{tidy-law}
 use Rattle.history.specs.RowForm.{there-back}
 use Rattle.accepted.specs.Refusals.{Accepted}
-use Rattle.accepted.specs.Checked.{Sound, Sized, Listed, of-sound}
+use Rattle.accepted.specs.Checked.{Sound, Sized, of-sound}
 use Rattle.accepted.specs.Columns.{birth-out}
 use Rattle.accepted.specs.Records.{Young}
 use Rattle.accepted.specs.Calls.{Cleans, clean-tells, clean-accepted, check-done}
@@ -65,7 +65,7 @@ module _ (rule : Rules) (pr : Profile rule) (m : Limits) (L : ℕ) (T : Tables) 
 
   -- ---- alleles
 
-  cleaned-births : cleaned rule L T S .nodes .birth ≡ kept rule (recordOf L T) S
+  pub cleaned-births : cleaned rule L T S .nodes .birth ≡ kept rule (recordOf L T) S
   unfolding cleaned tablesOf
   cleaned-births = clean-births rule pr (recordOf L T) S ok
 

@@ -1,26 +1,23 @@
--- What the checks 3 to 10 find of tables, as facts of the record that they mean; and what a join's 22 to 26 find of a batch.
-use mathlib.Core.Path.{_≡_, refl, sym, ap, subst, _∙_}
-use mathlib.Core.Bool.{Bool, true, false}
-use mathlib.Core.List.{List, [], _∷_, _++_}
-use mathlib.Core.Logic.{_⊎_, inl, inr}
+-- What the checks 3 to 10 find of tables, as facts of the record that they mean.
+use mathlib.Core.Path.{_≡_, refl, ap, _∙_}
+use mathlib.Core.Bool.{true}
+use mathlib.Core.List.{[], _∷_}
 use Prim.Native.Nat.{ℕ, _<_, _≤_}
 use native.Mathlib.Omega.{arith}
 use lib.ListN.{length}
-use Rattle.meaning.specs.Words.{at, mem, lex}
-use Rattle.meaning.specs.Rows.{NodeColumns, EdgeColumns, MutationColumns, Tables, Node, Edge, Mutation, Record, births, nodesOf, edgesOf, sitesOf, mutsOf, recordOf, timeOf, posOf, edgeKey}
+use Rattle.meaning.specs.Words.{at, lex}
+use Rattle.meaning.specs.Rows.{Tables, Edge, Mutation, Record, births, nodesOf, edgesOf, sitesOf, mutsOf, recordOf, timeOf, posOf, edgeKey}
 use Rattle.meaning.specs.Forest.{parentIn, ancestor}
 use Rattle.meaning.specs.Answer.{Limits}
 use Rattle.meaning.specs.Check.{keyOf}
-use Rattle.meaning.specs.Join.{BatchTables, Batch, batchOf, keyed, timeIn}
-use Rattle.laws.specs.Bools.{clash}
+use Rattle.meaning.specs.Join.{keyed}
 use Rattle.laws.specs.Counting.{length-rows}
-use Rattle.laws.specs.Members.{at-mem}
 use Rattle.laws.specs.Facts.{Distinct, All, Closed}
 use Rattle.history.specs.Pairs.{Pairs}
 use Rattle.history.specs.Alleles.{Settled, Settles}
-use Rattle.accepted.specs.Tests.{EdgeRight, Holds, NotOver}
-use Rattle.accepted.specs.Checked.{Sound, Apart}
-use Rattle.accepted.specs.Columns.{all-rows, same-row, birth-in, births-once, births-of, time-of, pos-of}
+use Rattle.accepted.specs.Tests.{EdgeRight}
+use Rattle.accepted.specs.Checked.{Sound}
+use Rattle.accepted.specs.Columns.{all-rows, same-row, births-once, time-of, pos-of}
 use Rattle.accepted.specs.Records.{closed-of}
 use Rattle.results.specs.Pairwise.{Pairwise, pairwise-rows, to-pairs}
 

@@ -1,10 +1,10 @@
 -- A joined record has again what the checks 3 to 10 found of the base.
-use mathlib.Core.Path.{_≡_, refl, sym, ap, subst, _∙_}
+use mathlib.Core.Path.{_≡_, refl, sym, ap, _∙_}
 use mathlib.Core.Bool.{Bool, true, false}
-use mathlib.Core.List.{List, [], _∷_, _++_}
+use mathlib.Core.List.{List, _++_}
 use mathlib.Core.Option.{Option, none, some}
-use mathlib.Core.Logic.{_⊎_, inl, inr, ⊎-elim}
-use Prim.Native.Nat.{ℕ, zero, suc, _<_, _≤_}
+use mathlib.Core.Logic.{⊎-elim}
+use Prim.Native.Nat.{ℕ, zero, suc, _<_}
 use native.Mathlib.Omega.{arith}
 use lib.Dec.{eqb}
 use lib.ListN.{length}
@@ -12,9 +12,9 @@ use Rattle.meaning.specs.Words.{at, mem, sort}
 use Rattle.meaning.specs.Rows.{Edge, Mutation, Record, births, timeOf, posOf, edgeKey}
 use Rattle.meaning.specs.Forest.{Par, Ages, parentIn, above, ancestor}
 use Rattle.meaning.specs.Join.{Batch, keyed, bySite, join}
-use Rattle.laws.specs.Bools.{clash, not-true}
+use Rattle.laws.specs.Bools.{not-true}
 use Rattle.laws.specs.Members.{mem-left, mem-right}
-use Rattle.laws.specs.Facts.{Distinct, Any, now, later, All, done, also, Cov, Closed}
+use Rattle.laws.specs.Facts.{Distinct, Any, now, later, All, also, Cov, Closed}
 use Rattle.forest.specs.Lines.{Above, here, step}
 use Rattle.forest.specs.Carriers.{ancestor-of}
 use Rattle.forest.specs.Profile.{joinPar}
@@ -22,11 +22,11 @@ use Rattle.bridge.specs.Rename.{above-zero, above-here, above-top, above-step, 
 use Rattle.history.specs.Order.{keyed-trans, keyed-apart}
 use Rattle.history.specs.Lists.{all-app, all-to, all-both, all-sort, distinct-join}
 use Rattle.history.specs.Encode.{parent-of}
-use Rattle.history.specs.JoinEdges.{Side, join-parent}
+use Rattle.history.specs.JoinEdges.{join-parent}
 use Rattle.history.specs.Moved.{all-by}
 use Rattle.history.specs.Joined.{join-births, base-time}
 use Rattle.history.specs.Pairs.{Pairs}
-use Rattle.history.specs.Alleles.{Settled, Settles}
+use Rattle.history.specs.Alleles.{Settles}
 use Rattle.results.specs.Pairwise.{Pairwise, before-rest, pairwise-any, of-pairs, to-pairs, pairwise-app, pairwise-with, sort-pairwise, sort-ordered, sort-order}
 use Rattle.results.specs.Facts.{Right, Parted, Rises, RecordSound}
 use Rattle.results.specs.Batched.{BatchFacts}

@@ -10,3 +10,6 @@ pub mod Joined
 pub mod Rows
 pub mod Back
 pub mod Joining
+pub mod Trees
+pub mod Marginal
+pub mod Published

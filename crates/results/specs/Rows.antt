@@ -2,19 +2,19 @@
 use mathlib.Core.Path.{_≡_, refl, sym, ap, ap₂, _∙_}
 use mathlib.Core.Bool.{Bool, true, false}
 use mathlib.Core.List.{List, [], _∷_, _++_}
-use mathlib.Core.Logic.{_⊎_, inl, inr, ⊎-elim}
+use mathlib.Core.Logic.{⊎-elim}
 use Prim.Native.Nat.{ℕ, zero, suc, _+_, _<_, _≤_}
 use native.Mathlib.Omega.{arith}
-use lib.Dec.{eqb, leb}
-use lib.ListN.{length, length-append}
-use borrow.Author.Tests.{eqb-true, eqb-false, eq-eqb, ne-eqb, le-leb, lt-leb, leb-true, leb-false}
+use lib.Dec.{leb}
+use lib.ListN.{length}
+use borrow.Author.Tests.{eq-eqb, ne-eqb, le-leb, lt-leb, leb-true, leb-false}
 use Rattle.meaning.specs.Words.{filter, insert, sort}
 use Rattle.meaning.specs.Rows.{Mutation}
 use Rattle.meaning.specs.Join.{ofSite, bySite}
 use Rattle.laws.specs.Bools.{eq?}
 use Rattle.laws.specs.Facts.{All, done, also}
-use Rattle.history.specs.Lists.{append-nil, all-to}
-use Rattle.results.specs.Pairwise.{Pairwise, lone, before-rest, all-with}
+use Rattle.history.specs.Lists.{all-to}
+use Rattle.results.specs.Pairwise.{Pairwise, lone, before-rest}
 use Rattle.results.specs.Facts.{Rises}
 
 -- how many rows pass the test

@@ -1,9 +1,9 @@
 -- The columns of a record of which the facts of the checks 3 to 10 hold pass those checks.
-use mathlib.Core.Path.{_≡_, refl, sym, ap, subst, _∙_}
+use mathlib.Core.Path.{_≡_, refl, sym, ap, _∙_}
 use mathlib.Core.Bool.{Bool, true, false}
 use mathlib.Core.List.{List, [], _∷_, map}
-use mathlib.Core.Logic.{_⊎_, inl, inr, ⊎-elim}
-use Prim.Native.Nat.{ℕ, zero, suc, _<_, _≤_}
+use mathlib.Core.Logic.{⊎-elim}
+use Prim.Native.Nat.{ℕ, zero, suc, _<_}
 use native.Mathlib.Omega.{arith}
 use lib.Dec.{eqb}
 use lib.ListN.{length, length-map, getD}
@@ -14,16 +14,14 @@ use Rattle.meaning.specs.Forest.{parentIn, ancestor}
 use Rattle.meaning.specs.Answer.{Limits}
 use Rattle.meaning.specs.Check.{keyOf}
 use Rattle.meaning.specs.Join.{keyed}
-use Rattle.laws.specs.Bools.{clash, eq?}
-use Rattle.laws.specs.Members.{mem-nil, mem-here, mem-there, mem-cases, at-mem, index-at, index-below}
-use Rattle.laws.specs.Facts.{Distinct, nil, cons, All, Closed}
-use Rattle.history.specs.Pairs.{Pairs}
-use Rattle.history.specs.Alleles.{Settled, Settles}
+use Rattle.laws.specs.Bools.{clash}
+use Rattle.laws.specs.Members.{mem-nil, mem-cases, at-mem, index-at, index-below}
+use Rattle.laws.specs.Facts.{Distinct, nil, cons}
 use Rattle.history.specs.RowForm.{there-back}
 use Rattle.accepted.specs.Tests.{LengthRight, EdgeRight, Holds, NotOver}
 use Rattle.accepted.specs.Checked.{Sound, Shaped, Sized, TreeSound, SitesSound, Apart}
-use Rattle.results.specs.Pairwise.{Pairwise, all-get, pairwise-get, at-map, of-pairs}
-use Rattle.results.specs.Facts.{Right, Parted, Rises, RecordSound}
+use Rattle.results.specs.Pairwise.{all-get, pairwise-get, at-map, of-pairs}
+use Rattle.results.specs.Facts.{Right, RecordSound}
 
 -- ---- a list with no number twice, and the rows of its numbers
 
