@@ -150,7 +150,10 @@ module _ (L : ℕ) (R : Record) (B : Batch) (s : RecordSound L R) (t : BatchFact
 
   rising : Pairs Rises (X .muts)
   unfolding join
-  rising = to-pairs (by-site-pairwise Rises (λ m n l. omega arith) (R .muts) (B .muts) (pairwise-any (λ m n. m .site ≡ n .site → Rises m n) (λ m n e. omega arith) (R .muts)) (pairwise-any (λ m n. m .site ≡ n .site → Rises m n) (λ m n e. omega arith) (B .muts)) (cross-to (λ m n p q e. omega arith) (s .site-row) (t .site-row)) 0 (length (R .sites)))
+  rising = to-pairs (by-site-pairwise Rises (λ m n l. omega arith) (R .muts) (B .muts)
+      (pairwise-any (λ m n. m .site ≡ n .site → Rises m n) (λ m n e. omega arith) (R .muts))
+      (pairwise-any (λ m n. m .site ≡ n .site → Rises m n) (λ m n e. omega arith) (B .muts))
+      (cross-to (λ m n p q e. omega arith) (s .site-row) (t .site-row)) 0 (length (R .sites)))
 
   abbrev new : ℕ → Bool
   new b = mem b NB
@@ -190,12 +193,16 @@ module _ (L : ℕ) (R : Record) (B : Batch) (s : RecordSound L R) (t : BatchFact
 
   base-settled : (m n : Mutation) → mem (m .node) NR ≡ true → mem (n .node) NR ≡ true → Settles R m n → Settles X m n
   unfolding join
-  base-settled m n h k q e = ancestor-base (parentIn (R .edges) (posOf (R .sites) (m .site))) (parentIn (X .edges) (posOf (R .sites) (m .site))) (λ b. mem b NR) (base-parent (posOf (R .sites) (m .site))) (base-above (posOf (R .sites) (m .site))) (n .node) (m .node) h ∙ q e
+  base-settled m n h k q e =
+      let x : ℕ = posOf (R .sites) (m .site) in
+      ancestor-base (parentIn (R .edges) x) (parentIn (X .edges) x) (λ b. mem b NR) (base-parent x) (base-above x) (n .node) (m .node) h ∙ q e
 
   cross-settled : (m n : Mutation) → mem (m .node) NR ≡ true → mem (n .node) NB ≡ true → Settles X m n
   unfolding join
-  cross-settled m n h k e = not-true (ancestor (parentIn (X .edges) (posOf (R .sites) (m .site))) (n .node) (m .node)) (λ a.
-      t .fresh (n .node) (ancestor-old (parentIn (R .edges) (posOf (R .sites) (m .site))) (parentIn (X .edges) (posOf (R .sites) (m .site))) (λ b. mem b NR) (base-parent (posOf (R .sites) (m .site))) (base-above (posOf (R .sites) (m .site))) (n .node) (m .node) h a) k)
+  cross-settled m n h k e =
+      let x : ℕ = posOf (R .sites) (m .site) in
+      not-true (ancestor (parentIn (X .edges) x) (n .node) (m .node)) (λ a.
+      t .fresh (n .node) (ancestor-old (parentIn (R .edges) x) (parentIn (X .edges) x) (λ b. mem b NR) (base-parent x) (base-above x) (n .node) (m .node) h a) k)
 
   batch-settled : Pairwise (Settles X) (B .muts)
   unfolding join

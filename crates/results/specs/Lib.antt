@@ -13,3 +13,4 @@ pub mod Joining
 pub mod Trees
 pub mod Marginal
 pub mod Published
+pub mod Witness
