@@ -14,7 +14,7 @@ clear-requires-2 c κs = search needs
 
 fill-requires : tie.Need-fill-requires
 fill-requires c κs =
-    let a : _ = cleared-long (length (c .before .before .before .before .before .before .before .before .before .before .before .before .before .before .before .args .has .now)) 0 (c .before .before .before .before .before .before .before .before .clear .ensures) in
+    let a : _ = cleared-long (length (c .before .before .before .before .before .before .before .before .before .before .before .before .before .before .before .args .has .now)) _ (c .before .before .before .before .before .before .before .before .clear .ensures) in
     (longer (c .before .before .before .before .before .before .before .before .before .before .before .before .before .before .before .pre .0) a, cleared-long (length (c .before .before .before .before .before .before .before .before .before .before .before .before .before .before .before .args .state .now)) (c .before .before .before .before .before .before .before .before .before .before .before .before .before .before .before .args .other) (c .before .before .before .before .clear2 .ensures) ∙ c .before .before .before .before .before .before .before .before .before .before .before .before .before .before .before .pre .1 ∙ sym a)
 
 same-length : tie.Need-same-length
