@@ -63,18 +63,18 @@ parent-named B even b h =
     let r : _ = any-row (λ (e : Edge). e .parent ≡ b) (λ i. record { left = at (B .edges .left) i; right = at (B .edges .right) i; parent = at (B .edges .parent) i; child = at (B .edges .child) i }) (length (B .edges .left)) a in
     rw (r .2) at (at-mem (B .edges .parent) (r .0) (omega (arith, r .1, even)))
 
+-- every batch's times are below 2 to the 32
+abbrev pub YoungBatches : List Call → Type 0
+YoungBatches [] = Prim.Unit
+YoungBatches (joins B o p ∷ l) = Young (B .nodes) × YoungBatches l
+YoungBatches (cleans S o ∷ l) = YoungBatches l
+
 module _ (rule : Rules) (pr : Profile rule) (m : Limits) (L : ℕ) where
   -- the calls, without what is lent
   abbrev plainly : List Call → List calls.Call
   plainly [] = []
   plainly (joins B o p ∷ l) = calls.joins B ∷ plainly l
   plainly (cleans S o ∷ l) = calls.cleans S ∷ plainly l
-
-  -- every batch's times are below 2 to the 32
-  abbrev pub YoungBatches : List Call → Type 0
-  YoungBatches [] = Prim.Unit
-  YoungBatches (joins B o p ∷ l) = Young (B .nodes) × YoungBatches l
-  YoungBatches (cleans S o ∷ l) = YoungBatches l
 
   -- what the law of histories calls named is named
   named : (l : List Call) (last : List ℕ) (o p : Lent) (T P : Tables) → NotRefused rule m L l last o p T P → (b : ℕ) → run.Names (calls.meant (plainly l)) last b → NamedLater l last b
