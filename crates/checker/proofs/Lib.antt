@@ -5,3 +5,5 @@ pub mod After
 pub mod Sound
 pub mod Whole
 pub mod Sites
+pub mod Callers
+pub mod Passing

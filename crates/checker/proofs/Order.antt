@@ -1,15 +1,13 @@
 -- The order of the rules: what a rule that refuses answers, what one that does not leaves, and what comes after.
-use mathlib.Core.Path.{_≡_, refl, sym, ap, _∙_}
+use mathlib.Core.Path.{_≡_, refl, sym}
 use mathlib.Core.Bool.{Bool, true, false, not}
-use mathlib.Core.List.{List}
 use Prim.Native.Nat.{ℕ, _<_, _≤_}
 use native.Mathlib.Omega.{arith}
 use lib.Dec.{eqb, ltb}
-use lib.ListN.{length}
 use borrow.Author.Tests.{lt-ltb, le-ltb, eq-eqb, ne-eqb, ltb-false}
 use Rattle.meaning.specs.Words.{lowest}
-use Rattle.meaning.specs.Answer.{Answer, answer, done, refuse, refuseRow, accepted}
-use Rattle.laws.specs.Counting.{lowest-le, none-passes}
+use Rattle.meaning.specs.Answer.{Answer, answer, refuse, refuseRow, accepted}
+use Rattle.laws.specs.Counting.{none-passes}
 use Rattle.laws.specs.Bools.{clash}
 use Rattle.rules.specs.Lengths.{refuseTable}
 

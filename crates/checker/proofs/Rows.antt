@@ -8,7 +8,7 @@ use lib.Dec.{eqb, leb, ltb}
 use lib.ListN.{length}
 use borrow.Author.Tests.{eq-eqb, leb-false, ltb-true, ltb-false}
 use Rattle.meaning.specs.Words.{or, at}
-use Rattle.meaning.specs.Rows.{NodeColumns, EdgeColumns, MutationColumns}
+use Rattle.meaning.specs.Rows.{EdgeColumns, MutationColumns}
 use Rattle.meaning.specs.Check.{repeated, edgeBroken, falls, mutationBroken}
 use Rattle.laws.specs.Bools.{clash, or-no}
 use Rattle.laws.specs.Counting.{of-below}

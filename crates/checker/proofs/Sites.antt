@@ -65,5 +65,5 @@ module _ (L : ℕ) (T : Tables) where
           pub above-refused : a < length (T .muts .site) → answer 10 a ≡ siteRules L T done
           above-refused h = sym (past-9 ∙ row-found above 10 rows done a by-births h)
 
-          pub sites-pass : length (T .muts .site) ≤ a → done ≡ siteRules L T done
-          sites-pass h = sym (past-9 ∙ row-none above 10 rows done a by-births h)
+          pub none-refused : length (T .muts .site) ≤ a → done ≡ siteRules L T done
+          none-refused h = sym (past-9 ∙ row-none above 10 rows done a by-births h)

@@ -1,14 +1,14 @@
 -- What a check whose answer is 0 has found: no row is broken.
-use mathlib.Core.Path.{_≡_, refl, sym, ap, _∙_}
-use mathlib.Core.Bool.{Bool, true, false, not}
+use mathlib.Core.Path.{_≡_, refl, sym, _∙_}
+use mathlib.Core.Bool.{true, false, not}
 use mathlib.Core.List.{List, [], _∷_}
-use Prim.Native.Nat.{ℕ, _<_, _≤_}
+use Prim.Native.Nat.{ℕ, _≤_}
 use lib.Dec.{eqb, ltb}
 use lib.ListN.{length}
 use borrow.Author.Tests.{eqb-true, ltb-false}
-use Rattle.meaning.specs.Words.{or, at}
+use Rattle.meaning.specs.Words.{at}
 use Rattle.meaning.specs.Rows.{NodeColumns, EdgeColumns, Tables, edgesOf}
-use Rattle.meaning.specs.Answer.{Answer, Limits, refuse, ragged, accepted}
+use Rattle.meaning.specs.Answer.{Answer, Limits, ragged, accepted}
 use Rattle.meaning.specs.Check.{repeated, edgeBroken, edgeUnordered, edgeShared, siteBroken, mutationBroken, mutationAbove, sampleUnknown, lengthBroken, shapes, sizes, treeRules, siteRules, rules, checkThen, sampleRules, checkAllThen}
 use Rattle.laws.specs.Bools.{or-no, not-no}
 use Rattle.rules.proofs.ByLengths.{ragged-two, ragged-three, ragged-four}

@@ -1,15 +1,15 @@
 -- Rules 1 and 2 of the check are the tables that the lengths give.
-use mathlib.Core.Path.{_≡_, refl, sym, ap, _∙_}
-use mathlib.Core.Bool.{Bool, true, false, not}
+use mathlib.Core.Path.{_≡_, refl, ap, _∙_}
+use mathlib.Core.Bool.{Bool, true, false}
 use mathlib.Core.List.{List, [], _∷_}
 use Prim.Native.Nat.{ℕ}
-use lib.Dec.{eqb, ltb}
+use lib.Dec.{ltb}
 use lib.ListN.{length}
 use Rattle.meaning.specs.Words.{or, any}
 use Rattle.meaning.specs.Rows.{Tables}
 use Rattle.meaning.specs.Answer.{Answer, Limits, refuse, ragged}
 use Rattle.meaning.specs.Check.{shapes, sizes}
-use Rattle.rules.specs.Lengths.{Lengths, lengthsOf, unlike, tableIf, raggedTable, largeTable, refuseTable}
+use Rattle.rules.specs.Lengths.{lengthsOf, unlike, tableIf, raggedTable, largeTable, refuseTable}
 
 any-cons : {A : Type 0} (f : A → Bool) (a : A) (l : List A) → any f (a ∷ l) ≡ or (f a) (any f l)
 unfolding any

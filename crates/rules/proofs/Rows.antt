@@ -1,13 +1,13 @@
 -- What the test of a row comes to, one law for each way out of the code that tests it.
-use mathlib.Core.Path.{_≡_, refl, sym, ap, _∙_}
-use mathlib.Core.Bool.{Bool, true, false, not}
+use mathlib.Core.Path.{_≡_, sym, ap, _∙_}
+use mathlib.Core.Bool.{true, false, not}
 use mathlib.Core.List.{List}
-use Prim.Native.Nat.{ℕ, zero, suc, _-_, _<_, _≤_}
+use Prim.Native.Nat.{ℕ, suc, _-_, _<_, _≤_}
 use native.Mathlib.Omega.{arith}
-use lib.Dec.{eqb, ltb, leb}
+use lib.Dec.{ltb, leb}
 use lib.ListN.{length}
 use borrow.Author.Tests.{lt-ltb, le-ltb, le-leb, lt-leb, eq-eqb, ne-eqb}
-use Rattle.meaning.specs.Words.{and, or, at, lex}
+use Rattle.meaning.specs.Words.{at, lex}
 use Rattle.meaning.specs.Rows.{NodeColumns, EdgeColumns, MutationColumns}
 use Rattle.meaning.specs.Check.{edgeBroken, keyOf, edgeUnordered, share, notAbove, siteBroken, falls, mutationBroken}
 

@@ -3,7 +3,7 @@ use mathlib.Core.Path.{_≡_}
 use Prim.Native.Nat.{ℕ, _<_}
 use lib.ListN.{length}
 use Rattle.meaning.specs.Words.{at}
-use Rattle.meaning.specs.Rows.{NodeColumns, EdgeColumns, MutationColumns}
+use Rattle.meaning.specs.Rows.{NodeColumns, EdgeColumns}
 
 -- the columns of the edges are equally long
 pub record EvenEdges (E : EdgeColumns) : Type 0 where

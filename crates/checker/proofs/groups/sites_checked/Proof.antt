@@ -1,7 +1,7 @@
 -- `sites_checked` meets its contract: each way out is one rule, and rule 10 is asked of rows that rules 5 and 9 have passed.
 use Rattle.checker.proofs.Order.{none-found}
 use Rattle.checker.proofs.Rows.{rising, lined}
-use Rattle.checker.proofs.Sites.{site-refused, mutation-refused, above-refused, sites-pass}
+use Rattle.checker.proofs.Sites.{site-refused, mutation-refused, above-refused, none-refused}
 use borrow.Author.Needs.{needs}
 use Rattle.checker.proofs.groups.sites_checked.Statement.{statement}
 use Rattle.checker.proofs.groups.sites_checked.Tie as tie
@@ -25,7 +25,7 @@ returns-3 : tie.Need-returns-3
 returns-3 c = above-refused _ _ _ (c .before .before .before .before .before .first-broken-site .ensures) (c .before .before .before .before .if1 .left) _ (c .before .before .before .first-broken-mutation .ensures) (c .before .before .if2 .left) (c .before .before .before .before .before .before .before .before .before .before .before .before .before .before .before .before .before .pre .0) (c .before .before .before .before .before .before .before .before .before .before .before .before .before .before .before .before .before .pre .2) _ (c .before .first-above .ensures) (c .if3 .taken)
 
 returns-4 : tie.Need-returns-4
-returns-4 c = sites-pass _ _ _ (c .before .before .before .before .before .first-broken-site .ensures) (c .before .before .before .before .if1 .left) _ (c .before .before .before .first-broken-mutation .ensures) (c .before .before .if2 .left) (c .before .before .before .before .before .before .before .before .before .before .before .before .before .before .before .before .before .pre .0) (c .before .before .before .before .before .before .before .before .before .before .before .before .before .before .before .before .before .pre .2) _ (c .before .first-above .ensures) (c .if3 .left)
+returns-4 c = none-refused _ _ _ (c .before .before .before .before .before .first-broken-site .ensures) (c .before .before .before .before .if1 .left) _ (c .before .before .before .first-broken-mutation .ensures) (c .before .before .if2 .left) (c .before .before .before .before .before .before .before .before .before .before .before .before .before .before .before .before .before .pre .0) (c .before .before .before .before .before .before .before .before .before .before .before .before .before .before .before .before .before .pre .2) _ (c .before .first-above .ensures) (c .if3 .left)
 
 pub sites-checked-spec : {M : Type 1} → statement M
 sites-checked-spec =

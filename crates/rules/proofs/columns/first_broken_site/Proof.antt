@@ -1,5 +1,5 @@
 -- `first_broken_site` meets its contract: no site before the one looked at is broken.
-use mathlib.Core.Path.{_≡_, sym, _∙_}
+use mathlib.Core.Path.{sym, _∙_}
 use Prim.Native.Nat.{_≤_, _-_}
 use lib.ListN.{length}
 use Rattle.meaning.specs.Check.{siteBroken}

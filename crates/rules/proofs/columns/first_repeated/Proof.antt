@@ -1,5 +1,5 @@
 -- `first_repeated` meets its contract: no row before the one looked at repeats an earlier one.
-use mathlib.Core.Path.{_≡_, sym, _∙_}
+use mathlib.Core.Path.{sym, _∙_}
 use Prim.Native.Nat.{_≤_, _-_}
 use lib.ListN.{length}
 use Rattle.meaning.specs.Check.{repeated}

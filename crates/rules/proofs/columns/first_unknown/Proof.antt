@@ -1,5 +1,5 @@
 -- `first_unknown` meets its contract: every sample before the one looked at names a node.
-use mathlib.Core.Path.{_≡_, sym, ap, _∙_}
+use mathlib.Core.Path.{sym, ap, _∙_}
 use Prim.Native.Nat.{_≤_, _-_}
 use lib.ListN.{length}
 use mathlib.Core.Bool.{not}

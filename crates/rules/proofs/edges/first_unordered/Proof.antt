@@ -1,5 +1,5 @@
 -- `first_unordered` meets its contract: every edge before the one looked at has its key above that of the row before.
-use mathlib.Core.Path.{_≡_, sym, _∙_}
+use mathlib.Core.Path.{sym, _∙_}
 use Prim.Native.Nat.{_≤_, _-_}
 use lib.ListN.{length}
 use Rattle.meaning.specs.Check.{edgeUnordered}
