@@ -6,4 +6,3 @@ pub mod Sound
 pub mod Whole
 pub mod Sites
 pub mod Callers
-pub mod Passing
