@@ -1,0 +1,9 @@
+-- Laws of the tree's columns.
+pub mod Totals
+pub mod Reading
+pub mod Mending
+pub mod OneEdge
+pub mod Only
+pub mod Up
+pub mod Climbing
+pub mod Falling
