@@ -13,7 +13,8 @@ use Rattle.meaning.specs.Words.{or}
 use Rattle.laws.specs.Bools.{eq?}
 use Rattle.tree.specs.Right as right
 use Rattle.tree.specs.Right.{live, stands, Grows}
-use Rattle.tree.specs.Line.{Lost}
+use Rattle.tree.specs.Line.{Under, Lost}
+use Rattle.tree.proofs.Mending.{live-other}
 use Rattle.tree.proofs.Reading.{live-cases, dead, stands-sample, stands-two}
 
 module _ (S C C' : List ℕ) (q : ℕ) (hq : q < length C) (pos : 0 < getD C q 0) (ec : C' ≡ set C q (getD C q 0 - 1)) where
@@ -34,11 +35,22 @@ module _ (S C C' : List ℕ) (q : ℕ) (hq : q < length C) (pos : 0 < getD C q 0
   pub fall-was : live S C' q ≡ true → stands S C q ≡ true
   fall-was l = ⊎-elim (λ s. stands-sample S C q s) (λ s. stands-two S C q (omega (arith, one-less))) (live-cases S C' q l)
 
-pub lost-end : (T S P C₀ C : List ℕ) (q0 : ℕ) → ((v : ℕ) → stands S C v ≡ stands S C₀ v) → Lost T S P C₀ C q0 right.none
-lost-end T S P C₀ C q0 s = record { same = λ v n. s v; was = λ n. absurd (n refl); all = λ z. s; still = λ n. absurd (n refl); above = λ n. absurd (n refl) }
+-- a climb from q0 keeps what is younger
+pub fall-under : (T S C₀ C C' : List ℕ) (q0 q x : ℕ) → C' ≡ set C q x → getD T q0 0 ≤ getD T q 0 → Under T S C₀ C q0 → Under T S C₀ C' q0
+fall-under T S C₀ C C' q0 q x ec a h = record { same = λ v l. rw ec (live-other S C q x v (λ e. omega (arith, ap (λ (y : ℕ). getD T y 0) e))) ∙ h .same v l }
 
-pub lost-stop : (T S P C₀ C C' : List ℕ) (q0 q : ℕ) → (q ≡ right.none → ⊥) → q < length C → 0 < getD C q 0 → C' ≡ set C q (getD C q 0 - 1) → ((v : ℕ) → stands S C v ≡ stands S C₀ v) → q < length P → getD T q0 0 ≤ getD T q 0 → live S C' q ≡ true → Lost T S P C₀ C' q0 q
-lost-stop T S P C₀ C C' q0 q m hq pos ec s hp a l = record { same = λ v n. fall-other S C C' q hq pos ec v n ∙ s v; was = λ n. sym (s q) ∙ fall-was S C C' q hq pos ec l; all = λ z. absurd (m z); still = λ n. (hp, l); above = λ n. a }
+pub lost-end : (T S P C₀ C : List ℕ) (q0 : ℕ) → ((v : ℕ) → stands S C v ≡ stands S C₀ v) → Under T S C₀ C q0 → Lost T S P C₀ C q0 right.none
+lost-end T S P C₀ C q0 s u = record { same = λ v n. s v; was = λ n. absurd (n refl); all = λ z. s; still = λ n. absurd (n refl); above = λ n. absurd (n refl); under = u }
+
+pub lost-stop : (T S P C₀ C C' : List ℕ) (q0 q : ℕ) → (q ≡ right.none → ⊥) → q < length C → 0 < getD C q 0 → C' ≡ set C q (getD C q 0 - 1) → ((v : ℕ) → stands S C v ≡ stands S C₀ v) → q < length P → getD T q0 0 ≤ getD T q 0 → Under T S C₀ C q0 → live S C' q ≡ true → Lost T S P C₀ C' q0 q
+lost-stop T S P C₀ C C' q0 q m hq pos ec s hp a u l = record {
+  same = λ v n. fall-other S C C' q hq pos ec v n ∙ s v;
+  was = λ n. sym (s q) ∙ fall-was S C C' q hq pos ec l;
+  all = λ z. absurd (m z);
+  still = λ n. (hp, l);
+  above = λ n. a;
+  under = fall-under T S C₀ C C' q0 q (getD C q 0 - 1) ec a u;
+}
 
 pub lt-eq : {a b t : ℕ} → a < b → b ≡ t → a < t
 lt-eq h e = omega arith

@@ -7,3 +7,6 @@ pub mod Only
 pub mod Up
 pub mod Climbing
 pub mod Falling
+pub mod Touching
+pub mod Entering
+pub mod Leaving

@@ -17,6 +17,13 @@ use Rattle.tree.specs.Right as right
 use Rattle.tree.specs.Right.{pick, total, one, live, stands, feeds, Grows}
 use Rattle.tree.specs.Line.{opt, parOf}
 
+pub lt? : (a b : ℕ) → (a < b) ⊎ (b ≤ a)
+lt? a b = go (ltb a b) refl
+  where
+    go : (t : Bool) → ltb a b ≡ t → (a < b) ⊎ (b ≤ a)
+    go true e = inl (ltb-true a b e)
+    go false e = inr (ltb-false a b e)
+
 -- ---- counts
 
 pub total-some : (f : ℕ → Bool) (n : ℕ) → 0 < total one f n → (d : ℕ) × (d < n) × (f d ≡ true)

@@ -18,6 +18,10 @@ module _ {P : Par} {K L : ℕ → Bool} (lv : Lives P K L) where
   low-one {w = w} (down {x = u} {d} k e l x) (down {d = f} j g m y) = low-one x (subst (λ (z : ℕ). Low P K L w z) (lv .only k g e m l) y)
 
 module _ {P : Par} {K L : ℕ → Bool} where
+  pub low-stands : {w x : ℕ} → Low P K L w x → K w ≡ true
+  low-stands (here k) = k
+  low-stands (down k e l y) = low-stands y
+
   -- what is over the low row is over each row of the line
   pub raise : {w x : ℕ} {o : Option ℕ} → Low P K L w x → Over P K o w → Over P K o x
   raise (here k) r = r
@@ -98,14 +102,10 @@ module _ {P P' : Par} {K K' L : ℕ → Bool} {c p q : ℕ} (ed : Edge P P' K K'
       pub insert-stand : {w z : ℕ} → rank c < rank q → K q ≡ false → K' q ≡ true → Low P K L w c → Low P K L z q → Over P' K' (some q) c → U' w ≡ some q → U' z ≡ some q → U' q ≡ U z → ((v : ℕ) → (v ≡ w → ⊥) → (v ≡ z → ⊥) → (v ≡ q → ⊥) → U' v ≡ U v) → (v : ℕ) → K' v ≡ true → Over P' K' (U' v) v
       insert-stand {w} {z} h n k lw lz oc uw uz uq rest v kv = go (eq? v w) (eq? v z) (eq? v q)
         where
-          kz : {x y : ℕ} → Low P K L x y → K x ≡ true
-          kz (here t) = t
-          kz (down a e l y) = kz y
-
           go : (v ≡ w) ⊎ (v ≡ w → ⊥) → (v ≡ z) ⊎ (v ≡ z → ⊥) → (v ≡ q) ⊎ (v ≡ q → ⊥) → Over P' K' (U' v) v
           go (inl t) b d = subst (λ (x : ℕ). Over P' K' (U' x) x) (sym t) (subst (λ (o : Option ℕ). Over P' K' o w) (sym uw) (lower (keep-low (below c h) lw) oc))
           go (inr s) (inl t) d = subst (λ (x : ℕ). Over P' K' (U' x) x) (sym t) (subst (λ (o : Option ℕ). Over P' K' o z) (sym uz) (other-low n k lz))
-          go (inr s) (inr r) (inl t) = subst (λ (x : ℕ). Over P' K' (U' x) x) (sym t) (subst (λ (o : Option ℕ). Over P' K' o q) (sym uq) (self-over h lz (up z (kz lz))))
+          go (inr s) (inr r) (inl t) = subst (λ (x : ℕ). Over P' K' (U' x) x) (sym t) (subst (λ (o : Option ℕ). Over P' K' o q) (sym uq) (self-over h lz (up z (low-stands lz))))
           go (inr s) (inr r) (inr t) = let j : K v ≡ true = sym (ed .same v t) ∙ kv in subst (λ (o : Option ℕ). Over P' K' o v) (sym (rest v s r t)) (keep (λ x. s (low-one lv x lw)) (λ m x. r (low-one lv x lz)) (here j) (in-live v j) (up v j))
 
       -- nothing comes to stand

@@ -39,3 +39,10 @@ pub record Noted (n m : ℕ) (U U' X X' : List ℕ) (k r : ℕ) : Type 0 where
   pub old : (i : ℕ) → i < k → getD X' i 0 ≡ getD X i 0
   pub rows : (i : ℕ) → k ≤ i → i < r → getD X' i 0 < n
   pub listed : (v : ℕ) → (getD U' v 0 ≡ getD U v 0 → ⊥) → (i : ℕ) × (k ≤ i) × (i < r) × (getD X' i 0 ≡ v)
+
+-- an edge from c to p may be put in: c has no parent yet, and p is older
+pub record Enters (T P : List ℕ) (c p : ℕ) : Type 0 where
+  pub child : c < length P
+  pub parent : p < length P
+  pub free : getD P c 0 ≡ 4294967295
+  pub older : getD T c 0 < getD T p 0

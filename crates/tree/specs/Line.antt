@@ -70,6 +70,10 @@ pub record Gained (S P C₀ C : List ℕ) (q0 d0 r : ℕ) : Type 0 where
   pub all : r ≡ 4294967295 → (v : ℕ) → stands S C v ≡ stands S C₀ v
   pub over : Over (parOf P) (stands S C) (opt r) d0
 
+-- what is younger than q0 lives as before
+pub record Under (T S C₀ C : List ℕ) (q0 : ℕ) : Type 0 where
+  pub same : (v : ℕ) → getD T v 0 < getD T q0 0 → live S C v ≡ live S C₀ v
+
 -- what a climb that takes away and ended at r leaves
 pub record Lost (T S P C₀ C : List ℕ) (q0 r : ℕ) : Type 0 where
   pub same : (v : ℕ) → (v ≡ r → ⊥) → stands S C v ≡ stands S C₀ v
@@ -77,3 +81,4 @@ pub record Lost (T S P C₀ C : List ℕ) (q0 r : ℕ) : Type 0 where
   pub all : r ≡ 4294967295 → (v : ℕ) → stands S C v ≡ stands S C₀ v
   pub still : (r ≡ 4294967295 → ⊥) → (r < length P) × (live S C r ≡ true)
   pub above : (r ≡ 4294967295 → ⊥) → getD T q0 0 ≤ getD T r 0
+  pub under : Under T S C₀ C q0
