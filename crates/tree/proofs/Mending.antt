@@ -123,3 +123,7 @@ module _ (T S P C M : List ℕ) (q d : ℕ) (sh : Shape T S P C M) where
 
       pub lose-goes : live S C' q ≡ false → Excess (length P) (feeds P (live S C')) C' M' (getD P q 0) q
       lose-goes l = rw (ec, em .1) (lose-on T S P C M q d sh hq k (em .0) (em .2) hd (em .3) (rw ec at l))
+
+-- the lengths stay
+pub shape-kept : {T S P C M : List ℕ} (P' C' M' : List ℕ) → length P' ≡ length P → length C' ≡ length C → length M' ≡ length M → Shape T S P C M → Shape T S P' C' M'
+shape-kept P' C' M' p c m h = record { times = h .times ∙ sym p; samples = h .samples ∙ sym p; counts = c ∙ h .counts ∙ sym p; sums = m ∙ h .sums ∙ sym p; rows = omega (arith, h .rows, p) }

@@ -13,6 +13,8 @@ use lib.Seq.{getD-set-same, getD-set-other}
 use Rattle.meaning.specs.Words.{and, or}
 use Rattle.laws.specs.Bools.{or-right}
 use Rattle.tree.specs.Right.{none, W, pick, total, one, row, live, feeds, By, Lacks, Excess, Right, Shape, Grows, climb}
+use Rattle.tree.specs.Kept.{Mended, Enters}
+use Rattle.tree.proofs.Mending.{shape-kept}
 use Rattle.tree.proofs.Totals.{and-false, and-true, More, grow, shrink}
 
 -- an edge of a live row
@@ -72,3 +74,30 @@ module _ (T S P C M : List ℕ) (c p : ℕ) (hc : c < length P) where
       go-age : (u : ℕ) → (b : Bool) → eqb u c ≡ b → u < length P → (getD (set P c p) u 0 ≡ none → ⊥) → getD T u 0 < getD T (getD (set P c p) u 0) 0
       go-age u true e l n = let z : getD (set P c p) u 0 ≡ p = ap (λ (x : ℕ). getD (set P c p) x 0) (eqb-true u c e) ∙ at-c in omega (arith, h (λ y. n (z ∙ y)) .1, ap (λ (x : ℕ). getD T x 0) z, ap (λ (x : ℕ). getD T x 0) (eqb-true u c e))
       go-age u false e l n = let z : getD P u 0 ≡ getD (set P c p) u 0 = off-c u (eqb-false u c e) in omega (arith, g .age u l (λ y. n (sym z ∙ y)), ap (λ (x : ℕ). getD T x 0) z)
+
+-- c, which lives, has got the parent p: what the climb that mends asks
+pub linked : {T S P C M : List ℕ} {c p : ℕ} → Mended T S P C M → Enters T P c p → live S C c ≡ true → Shape T S (set P c p) C M × Grows T (set P c p) × ((p ≡ none → ⊥) → p < length (set P c p)) × Lacks (length (set P c p)) (feeds (set P c p) (live S C)) C M p c × (c < length (set P c p)) × (getD (set P c p) c 0 ≡ p)
+linked {T} {S} {P} {C} {M} {c} {p} m e l =
+    (shape-edge T S P C M c p (e .child) (m .shape),
+    grows-edge T S P C M c p (e .child) (m .grows) (λ n. (e .parent, e .older)),
+    (λ n. omega (arith, length-set P c p, e .parent)),
+    insert-live T S P C M c p (e .child) (m .shape .rows) (e .free) l (m .right),
+    omega (arith, length-set P c p, e .child),
+    getD-set-same P c p 0 (e .child))
+
+-- c, which lives, has lost its parent: what the climb that mends asks
+pub unlinked : {T S P C M : List ℕ} {c : ℕ} → Mended T S P C M → c < length P → live S C c ≡ true → Shape T S (set P c none) C M × Grows T (set P c none) × ((getD P c 0 ≡ none → ⊥) → getD P c 0 < length (set P c none)) × (c < length (set P c none)) × Excess (length (set P c none)) (feeds (set P c none) (live S C)) C M (getD P c 0) c
+unlinked {T} {S} {P} {C} {M} {c} m h l =
+    (shape-edge T S P C M c none h (m .shape),
+    grows-edge T S P C M c none h (m .grows) (λ n. absurd (n refl)),
+    (λ n. omega (arith, length-set P c none, m .grows .inside c h n)),
+    omega (arith, length-set P c none),
+    remove-live T S P C M c none h (m .shape .rows) refl l (m .right))
+
+-- and after the climb
+pub mended-after : {T S P C M : List ℕ} (c p : ℕ) (C' M' : List ℕ) → Mended T S P C M → Grows T (set P c p) → length C' ≡ length C → length M' ≡ length M → Right S (set P c p) C' M' → Mended T S (set P c p) C' M'
+mended-after {T} {S} {P} {C} {M} c p C' M' m g ec em r = record { shape = shape-kept (set P c p) C' M' (length-set P c p) ec em (m .shape); grows = g; right = r }
+
+-- an edge of a row that does not live
+pub mended-dead : {T S P C M : List ℕ} {c : ℕ} (p : ℕ) → Mended T S P C M → c < length P → ((p ≡ none → ⊥) → (p < length P) × (getD T c 0 < getD T p 0)) → live S C c ≡ false → Mended T S (set P c p) C M
+mended-dead {T} {S} {P} {C} {M} {c} p m h a l = record { shape = shape-edge T S P C M c p h (m .shape); grows = grows-edge T S P C M c p h (m .grows) a; right = dead-edge T S P C M c p h l (m .right) }

@@ -50,3 +50,11 @@ noted-then {n} {n'} {a} {b} {m} {U} {U₁} {U'} {X} {X₁} {X'} {k} {j} {r} en e
     found : (v : ℕ) → (getD U' v 0 ≡ getD U v 0 → ⊥) → (getD U₁ v 0 ≡ getD U v 0) ⊎ (getD U₁ v 0 ≡ getD U v 0 → ⊥) → (i : ℕ) × (k ≤ i) × (i < r) × (getD X' i 0 ≡ v)
     found v d (inl e) = let h : _ = g .listed v (λ z. d (z ∙ e)) in (h .0, omega (arith, h .1, f .more), h .2, h .3)
     found v d (inr e) = let h : _ = f .listed v e in (h .0, h .1, omega (arith, h .2, g .more), g .old (h .0) (h .2) ∙ h .3)
+
+-- three writes, one after the other
+pub noted-three : {U U₁ U₂ U' X X₁ X₂ X' : List ℕ} {k i j r : ℕ} (a b d x y z : ℕ) → (U₁ ≡ set U a x) × Noted (length U) 1 U U₁ X X₁ k i → (U₂ ≡ set U₁ b y) × Noted (length U₁) 1 U₁ U₂ X₁ X₂ i j → (U' ≡ set U₂ d z) × Noted (length U₂) 1 U₂ U' X₂ X' j r → (U' ≡ set (set (set U a x) b y) d z) × Noted (length U) 3 U U' X X' k r
+noted-three {U} {U₁} {U₂} {U'} a b d x y z f g h =
+    let e : length U₁ ≡ length U = ap length (f .0) ∙ length-set U a x in
+    let e' : length U₂ ≡ length U = ap length (g .0) ∙ length-set U₁ b y ∙ e in
+    (h .0 ∙ ap (λ (l : List ℕ). set l d z) (g .0 ∙ ap (λ (l : List ℕ). set l b y) (f .0)),
+    noted-then {m = 3} e' (omega arith) (noted-then {m = 2} e (omega arith) (f .1) (g .1)) (h .1))

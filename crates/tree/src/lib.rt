@@ -97,15 +97,7 @@ fn stop(time: &[u32], sample: &[u8], parent: &[u32], count: &[u32], p: u32) -> u
 }
 
 // q0 lacks its live child d0; the answer is the row where mending ends.
-fn climb_up(
-    time: &[u32],
-    sample: &[u8],
-    parent: &[u32],
-    count: &mut [u32],
-    sum: &mut [u32],
-    q0: u32,
-    d0: u32,
-) -> u32
+fn climb_up(time: &[u32], sample: &[u8], parent: &[u32], count: &mut [u32], sum: &mut [u32], q0: u32, d0: u32) -> u32
     requires { ⌜ Shape (now time) (now sample) (now parent) (now count) (now sum) × Grows (now time) (now parent) × ((q0 ≡ none → ⊥) → q0 < length (now parent)) × Lacks (length (now parent)) (feeds (now parent) (live (now sample) (now count))) (now count) (now sum) q0 d0 × (d0 < length (now parent)) × (getD (now parent) d0 0 ≡ q0) ⌝ }
     ensures { λ r. ⌜ Right (now (sample .entry)) (now (parent .entry)) (now (count .exit)) (now (sum .exit)) × Gained (now (sample .entry)) (now (parent .entry)) (now (count .entry)) (now (count .exit)) q0 d0 r ⌝ }
 {
@@ -124,15 +116,7 @@ fn climb_up(
 }
 
 // q0 has d0 in excess; the answer is the row where mending ends.
-fn climb_down(
-    time: &[u32],
-    sample: &[u8],
-    parent: &[u32],
-    count: &mut [u32],
-    sum: &mut [u32],
-    q0: u32,
-    d0: u32,
-) -> u32
+fn climb_down(time: &[u32], sample: &[u8], parent: &[u32], count: &mut [u32], sum: &mut [u32], q0: u32, d0: u32) -> u32
     requires { ⌜ Shape (now time) (now sample) (now parent) (now count) (now sum) × Grows (now time) (now parent) × ((q0 ≡ none → ⊥) → q0 < length (now parent)) × (d0 < length (now parent)) × Excess (length (now parent)) (feeds (now parent) (live (now sample) (now count))) (now count) (now sum) q0 d0 ⌝ }
     ensures { λ r. ⌜ Right (now (sample .entry)) (now (parent .entry)) (now (count .exit)) (now (sum .exit)) × Lost (now (time .entry)) (now (sample .entry)) (now (parent .entry)) (now (count .entry)) (now (count .exit)) q0 r ⌝ }
 {
@@ -147,4 +131,55 @@ fn climb_down(
         q = parent[q as usize];
     }
     NONE
+}
+
+// Every write of the column `up` goes through here: the row v is listed, and the answer is the new number of listed rows.
+fn put_up(up: &mut [u32], touched: &mut [u32], k: usize, v: u32, x: u32) -> usize
+    requires { ⌜ (v < length (now up)) × (k < length (now touched)) ⌝ }
+    ensures { λ r. ⌜ (now (up .exit) ≡ set (now (up .entry)) v x) × Noted (length (now (up .entry))) 1 (now (up .entry)) (now (up .exit)) (now (touched .entry)) (now (touched .exit)) k r ⌝ }
+{
+    up[v as usize] = x;
+    touched[k] = v;
+    k + 1
+}
+
+// s comes to stand above w and z, and takes over what was above z.
+fn seat(up: &mut [u32], touched: &mut [u32], k: usize, w: u32, z: u32, s: u32) -> usize
+    requires { ⌜ (w < length (now up)) × (z < length (now up)) × (s < length (now up)) × (k + 3 ≤ length (now touched)) ⌝ }
+    ensures { λ r. ⌜ (now (up .exit) ≡ set (set (set (now (up .entry)) w s) z s) s (getD (now (up .entry)) z 0)) × Noted (length (now (up .entry))) 3 (now (up .entry)) (now (up .exit)) (now (touched .entry)) (now (touched .exit)) k r ⌝ }
+{
+    let o = up[z as usize];
+    let a = put_up(up, touched, k, w, s);
+    let b = put_up(up, touched, a, z, s);
+    put_up(up, touched, b, s, o)
+}
+
+// s ceases to stand: z gets what was above s, and nothing is above w.
+fn cede(up: &mut [u32], touched: &mut [u32], k: usize, w: u32, z: u32, s: u32) -> usize
+    requires { ⌜ (w < length (now up)) × (z < length (now up)) × (s < length (now up)) × (k + 3 ≤ length (now touched)) ⌝ }
+    ensures { λ r. ⌜ (now (up .exit) ≡ set (set (set (now (up .entry)) z (getD (now (up .entry)) s 0)) s none) w none) × Noted (length (now (up .entry))) 3 (now (up .entry)) (now (up .exit)) (now (touched .entry)) (now (touched .exit)) k r ⌝ }
+{
+    let o = up[s as usize];
+    let a = put_up(up, touched, k, z, o);
+    let b = put_up(up, touched, a, s, NONE);
+    put_up(up, touched, b, w, NONE)
+}
+
+// c, which lives, gets the parent p; the answer is the row where mending ends.
+fn link(time: &[u32], sample: &[u8], parent: &mut [u32], count: &mut [u32], sum: &mut [u32], c: u32, p: u32) -> u32
+    requires { ⌜ Mended (now time) (now sample) (now parent) (now count) (now sum) × Enters (now time) (now parent) c p × (live (now sample) (now count) c ≡ true) ⌝ }
+    ensures { λ r. ⌜ (now (parent .exit) ≡ set (now (parent .entry)) c p) × Mended (now (time .entry)) (now (sample .entry)) (now (parent .exit)) (now (count .exit)) (now (sum .exit)) × Gained (now (sample .entry)) (now (parent .exit)) (now (count .entry)) (now (count .exit)) p c r ⌝ }
+{
+    parent[c as usize] = p;
+    climb_up(time, sample, parent, count, sum, p, c)
+}
+
+// c, which lives, loses its parent; the answer is the row where mending ends.
+fn unlink(time: &[u32], sample: &[u8], parent: &mut [u32], count: &mut [u32], sum: &mut [u32], c: u32) -> u32
+    requires { ⌜ Mended (now time) (now sample) (now parent) (now count) (now sum) × (c < length (now parent)) × (live (now sample) (now count) c ≡ true) ⌝ }
+    ensures { λ r. ⌜ (now (parent .exit) ≡ set (now (parent .entry)) c none) × Mended (now (time .entry)) (now (sample .entry)) (now (parent .exit)) (now (count .exit)) (now (sum .exit)) × Lost (now (time .entry)) (now (sample .entry)) (now (parent .exit)) (now (count .entry)) (now (count .exit)) (getD (now (parent .entry)) c 0) r ⌝ }
+{
+    let q = parent[c as usize];
+    parent[c as usize] = NONE;
+    climb_down(time, sample, parent, count, sum, q, c)
 }
