@@ -12,10 +12,12 @@ use Rattle.laws.specs.Bools.{clash, eq?}
 use Rattle.tree.specs.Right as right
 use Rattle.tree.specs.Right.{live, stands, Shape, Grows}
 use Rattle.tree.specs.Line.{parOf, opt, Low, here, down, Over, Edge, Lives, Stop, ends, at, over, Gained}
-use Rattle.tree.specs.Kept.{Mended, UpOk, Kept, Enters}
+use Rattle.tree.specs.Kept.{Mended, UpOk, Kept, Enters, Heir}
 use Rattle.tree.proofs.Reading.{of-par, no-parent, par-off, ranked, opt-some, stands-live}
 use Rattle.tree.proofs.Only.{lives}
 use Rattle.tree.proofs.Up.{low-stands, insert-stand, insert-same, keep}
+use Rattle.tree.proofs.OneEdge.{mended-dead}
+use Rattle.tree.proofs.Inheriting.{heir-calm, heir-below}
 use Rattle.tree.proofs.Climbing.{stop-one, stop-edge}
 
 -- a climb stops at no younger row than it starts from
@@ -157,3 +159,18 @@ dead-up {T} {S} {P} {C} {M} {U} {c} {p} k en n = record {
     low-live : {x y : ℕ} → Low (parOf P) (stands S C) (live S C) x y → live S C y ≡ true
     low-live {x} (here t) = stands-live S C x t
     low-live (down a b l y) = lives T S P C M (k .mended .shape) (k .mended .grows) (k .mended .right) .up b l
+
+-- ---- the state after an edge more
+
+pub entry : {T S P C M U : List ℕ} {c p s w : ℕ} → Kept T S P C M U → Enters T P c p → live S C c ≡ true → Stop P (live S C) s p → (w < length P) × Low (parOf P) (stands S C) (live S C) w c → Entry T S P C M U c p s w
+entry k e l s w = record { kept = k; enters = e; lives = l; stop = s; w-in = w .0; w-low = w .1 }
+
+module _ {T S P C M U P' C' M' U' : List ℕ} {c p s w z r : ℕ} (en : Entry T S P C M U c p s w) (he : Heir S P C s z) (is : P' ≡ set P c p) (md : Mended T S P' C' M') (gd : Gained S P' C C' p c r) where
+  pub entered-same : z ≡ right.none → U' ≡ set U w s → Kept T S P' C' M' U'
+  entered-same n eu = record { mended = md; up = rw (is, eu) (same-up en (rw is at gd) (heir-calm (en .kept .mended .shape .rows) he n)) }
+
+  pub entered-stand : (z ≡ right.none → ⊥) → U' ≡ set (set (set U w s) z s) s (getD U z 0) → Kept T S P' C' M' U'
+  entered-stand n eu = let b : _ = heir-below he n in record { mended = md; up = rw (is, eu) (stand-up en (rw is at gd) (b .row) (b .new) (b .inside) (b .is-low)) }
+
+pub entered-dead : {T S P C M U : List ℕ} {c p : ℕ} → Kept T S P C M U → Enters T P c p → live S C c ≡ false → Kept T S (set P c p) C M U
+entered-dead {p = p} k e l = record { mended = mended-dead p (k .mended) (e .child) (λ n. (e .parent, e .older)) l; up = dead-up k e l }

@@ -13,8 +13,10 @@ use Rattle.forest.specs.Lines.{Ranked}
 use Rattle.tree.specs.Right as right
 use Rattle.tree.specs.Right.{W, live, stands, Shape, Grows}
 use Rattle.tree.specs.Line.{parOf, opt, Low, here, down, Over, Edge, Lives, Lost}
-use Rattle.tree.specs.Kept.{Mended, UpOk, Kept}
+use Rattle.tree.specs.Kept.{Mended, UpOk, Kept, Heir}
 use Rattle.tree.proofs.Reading.{par-of, of-par, no-parent, par-off, ranked, opt-none, stands-live}
+use Rattle.tree.proofs.OneEdge.{mended-dead}
+use Rattle.tree.proofs.Inheriting.{heir-calm, heir-below}
 use Rattle.tree.proofs.Only.{lives}
 use Rattle.tree.proofs.Up.{low-stands, keep, over-one, remove-stand, remove-same, over-total}
 
@@ -138,3 +140,26 @@ dead-less {T} {S} {P} {C} {M} {U} {c} k hc had n md = record {
     low-live : {x y : ℕ} → Low (parOf (set P c right.none)) (stands S C) (live S C) x y → live S C y ≡ true
     low-live {x} (here t) = stands-live S C x t
     low-live (down a b l y) = lives T S (set P c right.none) C M (md .shape) (md .grows) (md .right) .up b l
+
+-- ---- the state after an edge less
+
+pub leave : {T S P C M U P' C' M' : List ℕ} {c s w : ℕ} → Kept T S P C M U → c < length P → (getD P c 0 ≡ right.none → ⊥) → P' ≡ set P c right.none → Mended T S P' C' M' → Lost T S P' C C' (getD P c 0) s → (w < length P') × Low (parOf P') (stands S C') (live S C') w c → Leave T S P C M U C' M' c s w
+leave {P = P} {c = c} k h had is md lo w = record {
+  kept = k;
+  child = h;
+  had = had;
+  mended = rw is at md;
+  lost = rw is at lo;
+  w-in = omega (arith, w .0, ap length is, length-set P c right.none);
+  w-low = rw is at (w .1);
+}
+
+module _ {T S P C M U P' C' M' U' : List ℕ} {c s w z : ℕ} (le : Leave T S P C M U C' M' c s w) (is : P' ≡ set P c right.none) (md : Mended T S P' C' M') (he : Heir S P' C' s z) where
+  pub left-same : z ≡ right.none → U' ≡ set U w right.none → Kept T S P' C' M' U'
+  left-same n eu = record { mended = md; up = rw (is, eu) (less-up le (λ v. ⊎-elim (λ e. steady-none le e v) (λ m. steady-row le m (heir-calm (md .shape .rows) he n m) v) (eq? s right.none))) }
+
+  pub left-fall : (z ≡ right.none → ⊥) → U' ≡ set (set (set U z (getD U s 0)) s right.none) w right.none → Kept T S P' C' M' U'
+  left-fall n eu = let b : _ = heir-below he n in record { mended = md; up = rw (is, eu) (fall-up le (b .row) (b .new) (omega (arith, b .inside, ap length is, length-set P c right.none)) (rw is at (b .is-low))) }
+
+pub left-dead : {T S P C M U : List ℕ} {c : ℕ} → Kept T S P C M U → c < length P → (getD P c 0 ≡ right.none → ⊥) → live S C c ≡ false → Kept T S (set P c right.none) C M U
+left-dead k h had l = let m : _ = mended-dead right.none (k .mended) h (λ n. absurd (n refl)) l in record { mended = m; up = dead-less k h had l m }

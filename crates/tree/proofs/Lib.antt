@@ -10,3 +10,4 @@ pub mod Falling
 pub mod Touching
 pub mod Entering
 pub mod Leaving
+pub mod Inheriting

@@ -77,22 +77,24 @@ module _ (T S P C M : List ℕ) (c p : ℕ) (hc : c < length P) where
 
 -- c, which lives, has got the parent p: what the climb that mends asks
 pub linked : {T S P C M : List ℕ} {c p : ℕ} → Mended T S P C M → Enters T P c p → live S C c ≡ true → Shape T S (set P c p) C M × Grows T (set P c p) × ((p ≡ none → ⊥) → p < length (set P c p)) × Lacks (length (set P c p)) (feeds (set P c p) (live S C)) C M p c × (c < length (set P c p)) × (getD (set P c p) c 0 ≡ p)
-linked {T} {S} {P} {C} {M} {c} {p} m e l =
-    (shape-edge T S P C M c p (e .child) (m .shape),
-    grows-edge T S P C M c p (e .child) (m .grows) (λ n. (e .parent, e .older)),
-    (λ n. omega (arith, length-set P c p, e .parent)),
-    insert-live T S P C M c p (e .child) (m .shape .rows) (e .free) l (m .right),
-    omega (arith, length-set P c p, e .child),
-    getD-set-same P c p 0 (e .child))
+linked {T} {S} {P} {C} {M} {c} {p} m e l = (
+  shape-edge T S P C M c p (e .child) (m .shape),
+  grows-edge T S P C M c p (e .child) (m .grows) (λ n. (e .parent, e .older)),
+  (λ n. omega (arith, length-set P c p, e .parent)),
+  insert-live T S P C M c p (e .child) (m .shape .rows) (e .free) l (m .right),
+  omega (arith, length-set P c p, e .child),
+  getD-set-same P c p 0 (e .child),
+)
 
 -- c, which lives, has lost its parent: what the climb that mends asks
 pub unlinked : {T S P C M : List ℕ} {c : ℕ} → Mended T S P C M → c < length P → live S C c ≡ true → Shape T S (set P c none) C M × Grows T (set P c none) × ((getD P c 0 ≡ none → ⊥) → getD P c 0 < length (set P c none)) × (c < length (set P c none)) × Excess (length (set P c none)) (feeds (set P c none) (live S C)) C M (getD P c 0) c
-unlinked {T} {S} {P} {C} {M} {c} m h l =
-    (shape-edge T S P C M c none h (m .shape),
-    grows-edge T S P C M c none h (m .grows) (λ n. absurd (n refl)),
-    (λ n. omega (arith, length-set P c none, m .grows .inside c h n)),
-    omega (arith, length-set P c none),
-    remove-live T S P C M c none h (m .shape .rows) refl l (m .right))
+unlinked {T} {S} {P} {C} {M} {c} m h l = (
+  shape-edge T S P C M c none h (m .shape),
+  grows-edge T S P C M c none h (m .grows) (λ n. absurd (n refl)),
+  (λ n. omega (arith, length-set P c none, m .grows .inside c h n)),
+  omega (arith, length-set P c none),
+  remove-live T S P C M c none h (m .shape .rows) refl l (m .right),
+)
 
 -- and after the climb
 pub mended-after : {T S P C M : List ℕ} (c p : ℕ) (C' M' : List ℕ) → Mended T S P C M → Grows T (set P c p) → length C' ≡ length C → length M' ≡ length M → Right S (set P c p) C' M' → Mended T S (set P c p) C' M'

@@ -55,6 +55,11 @@ noted-then {n} {n'} {a} {b} {m} {U} {U₁} {U'} {X} {X₁} {X'} {k} {j} {r} en e
 pub noted-three : {U U₁ U₂ U' X X₁ X₂ X' : List ℕ} {k i j r : ℕ} (a b d x y z : ℕ) → (U₁ ≡ set U a x) × Noted (length U) 1 U U₁ X X₁ k i → (U₂ ≡ set U₁ b y) × Noted (length U₁) 1 U₁ U₂ X₁ X₂ i j → (U' ≡ set U₂ d z) × Noted (length U₂) 1 U₂ U' X₂ X' j r → (U' ≡ set (set (set U a x) b y) d z) × Noted (length U) 3 U U' X X' k r
 noted-three {U} {U₁} {U₂} {U'} a b d x y z f g h =
     let e : length U₁ ≡ length U = ap length (f .0) ∙ length-set U a x in
-    let e' : length U₂ ≡ length U = ap length (g .0) ∙ length-set U₁ b y ∙ e in
-    (h .0 ∙ ap (λ (l : List ℕ). set l d z) (g .0 ∙ ap (λ (l : List ℕ). set l b y) (f .0)),
-    noted-then {m = 3} e' (omega arith) (noted-then {m = 2} e (omega arith) (f .1) (g .1)) (h .1))
+    let e' : length U₂ ≡ length U = ap length (g .0) ∙ length-set U₁ b y ∙ e in (
+      h .0 ∙ ap (λ (l : List ℕ). set l d z) (g .0 ∙ ap (λ (l : List ℕ). set l b y) (f .0)),
+      noted-then {m = 3} e' (omega arith) (noted-then {m = 2} e (omega arith) (f .1) (g .1)) (h .1),
+    )
+
+-- a list of a writes is one of at most m
+pub noted-more : {n a m : ℕ} {U U' X X' : List ℕ} {k r : ℕ} → a ≤ m → Noted n a U U' X X' k r → Noted n m U U' X X' k r
+noted-more h f = record { more = f .more; few = omega (arith, f .few); long = f .long; old = f .old; rows = f .rows; listed = f .listed }

@@ -97,7 +97,15 @@ fn stop(time: &[u32], sample: &[u8], parent: &[u32], count: &[u32], p: u32) -> u
 }
 
 // q0 lacks its live child d0; the answer is the row where mending ends.
-fn climb_up(time: &[u32], sample: &[u8], parent: &[u32], count: &mut [u32], sum: &mut [u32], q0: u32, d0: u32) -> u32
+fn climb_up(
+    time: &[u32],
+    sample: &[u8],
+    parent: &[u32],
+    count: &mut [u32],
+    sum: &mut [u32],
+    q0: u32,
+    d0: u32,
+) -> u32
     requires { ⌜ Shape (now time) (now sample) (now parent) (now count) (now sum) × Grows (now time) (now parent) × ((q0 ≡ none → ⊥) → q0 < length (now parent)) × Lacks (length (now parent)) (feeds (now parent) (live (now sample) (now count))) (now count) (now sum) q0 d0 × (d0 < length (now parent)) × (getD (now parent) d0 0 ≡ q0) ⌝ }
     ensures { λ r. ⌜ Right (now (sample .entry)) (now (parent .entry)) (now (count .exit)) (now (sum .exit)) × Gained (now (sample .entry)) (now (parent .entry)) (now (count .entry)) (now (count .exit)) q0 d0 r ⌝ }
 {
@@ -116,7 +124,15 @@ fn climb_up(time: &[u32], sample: &[u8], parent: &[u32], count: &mut [u32], sum:
 }
 
 // q0 has d0 in excess; the answer is the row where mending ends.
-fn climb_down(time: &[u32], sample: &[u8], parent: &[u32], count: &mut [u32], sum: &mut [u32], q0: u32, d0: u32) -> u32
+fn climb_down(
+    time: &[u32],
+    sample: &[u8],
+    parent: &[u32],
+    count: &mut [u32],
+    sum: &mut [u32],
+    q0: u32,
+    d0: u32,
+) -> u32
     requires { ⌜ Shape (now time) (now sample) (now parent) (now count) (now sum) × Grows (now time) (now parent) × ((q0 ≡ none → ⊥) → q0 < length (now parent)) × (d0 < length (now parent)) × Excess (length (now parent)) (feeds (now parent) (live (now sample) (now count))) (now count) (now sum) q0 d0 ⌝ }
     ensures { λ r. ⌜ Right (now (sample .entry)) (now (parent .entry)) (now (count .exit)) (now (sum .exit)) × Lost (now (time .entry)) (now (sample .entry)) (now (parent .entry)) (now (count .entry)) (now (count .exit)) q0 r ⌝ }
 {
@@ -166,7 +182,15 @@ fn cede(up: &mut [u32], touched: &mut [u32], k: usize, w: u32, z: u32, s: u32) -
 }
 
 // c, which lives, gets the parent p; the answer is the row where mending ends.
-fn link(time: &[u32], sample: &[u8], parent: &mut [u32], count: &mut [u32], sum: &mut [u32], c: u32, p: u32) -> u32
+fn link(
+    time: &[u32],
+    sample: &[u8],
+    parent: &mut [u32],
+    count: &mut [u32],
+    sum: &mut [u32],
+    c: u32,
+    p: u32,
+) -> u32
     requires { ⌜ Mended (now time) (now sample) (now parent) (now count) (now sum) × Enters (now time) (now parent) c p × (live (now sample) (now count) c ≡ true) ⌝ }
     ensures { λ r. ⌜ (now (parent .exit) ≡ set (now (parent .entry)) c p) × Mended (now (time .entry)) (now (sample .entry)) (now (parent .exit)) (now (count .exit)) (now (sum .exit)) × Gained (now (sample .entry)) (now (parent .exit)) (now (count .entry)) (now (count .exit)) p c r ⌝ }
 {
@@ -175,11 +199,76 @@ fn link(time: &[u32], sample: &[u8], parent: &mut [u32], count: &mut [u32], sum:
 }
 
 // c, which lives, loses its parent; the answer is the row where mending ends.
-fn unlink(time: &[u32], sample: &[u8], parent: &mut [u32], count: &mut [u32], sum: &mut [u32], c: u32) -> u32
+fn unlink(
+    time: &[u32],
+    sample: &[u8],
+    parent: &mut [u32],
+    count: &mut [u32],
+    sum: &mut [u32],
+    c: u32,
+) -> u32
     requires { ⌜ Mended (now time) (now sample) (now parent) (now count) (now sum) × (c < length (now parent)) × (live (now sample) (now count) c ≡ true) ⌝ }
     ensures { λ r. ⌜ (now (parent .exit) ≡ set (now (parent .entry)) c none) × Mended (now (time .entry)) (now (sample .entry)) (now (parent .exit)) (now (count .exit)) (now (sum .exit)) × Lost (now (time .entry)) (now (sample .entry)) (now (parent .exit)) (now (count .entry)) (now (count .exit)) (getD (now (parent .entry)) c 0) r ⌝ }
 {
     let q = parent[c as usize];
     parent[c as usize] = NONE;
     climb_down(time, sample, parent, count, sum, q, c)
+}
+
+// An edge enters: c gets the parent p. The answer is the new number of listed rows.
+fn insert_up(
+    time: &[u32],
+    sample: &[u8],
+    parent: &mut [u32],
+    count: &mut [u32],
+    sum: &mut [u32],
+    up: &mut [u32],
+    touched: &mut [u32],
+    k: usize,
+    c: u32,
+    p: u32,
+) -> usize
+    requires { ⌜ Kept (now time) (now sample) (now parent) (now count) (now sum) (now up) × Enters (now time) (now parent) c p × (k + 3 ≤ length (now touched)) ⌝ }
+    ensures { λ r. ⌜ (now (parent .exit) ≡ set (now (parent .entry)) c p) × Kept (now (time .entry)) (now (sample .entry)) (now (parent .exit)) (now (count .exit)) (now (sum .exit)) (now (up .exit)) × Noted (length (now (up .entry))) 3 (now (up .entry)) (now (up .exit)) (now (touched .entry)) (now (touched .exit)) k r ⌝ }
+{
+    if alive(sample, count, c) {
+        let s = stop(time, sample, parent, count, p);
+        let w = low(time, sample, parent, count, sum, c);
+        let z = heir(time, sample, parent, count, sum, s);
+        link(time, sample, parent, count, sum, c, p);
+        if z == NONE {
+            return put_up(up, touched, k, w, s);
+        }
+        return seat(up, touched, k, w, z, s);
+    }
+    parent[c as usize] = p;
+    k
+}
+
+// An edge leaves: c has no parent any more. The answer is the new number of listed rows.
+fn remove_up(
+    time: &[u32],
+    sample: &[u8],
+    parent: &mut [u32],
+    count: &mut [u32],
+    sum: &mut [u32],
+    up: &mut [u32],
+    touched: &mut [u32],
+    k: usize,
+    c: u32,
+) -> usize
+    requires { ⌜ Kept (now time) (now sample) (now parent) (now count) (now sum) (now up) × (c < length (now parent)) × (k + 3 ≤ length (now touched)) × (getD (now parent) c 0 ≡ none → ⊥) ⌝ }
+    ensures { λ r. ⌜ (now (parent .exit) ≡ set (now (parent .entry)) c none) × Kept (now (time .entry)) (now (sample .entry)) (now (parent .exit)) (now (count .exit)) (now (sum .exit)) (now (up .exit)) × Noted (length (now (up .entry))) 3 (now (up .entry)) (now (up .exit)) (now (touched .entry)) (now (touched .exit)) k r ⌝ }
+{
+    if alive(sample, count, c) {
+        let s = unlink(time, sample, parent, count, sum, c);
+        let w = low(time, sample, parent, count, sum, c);
+        let z = heir(time, sample, parent, count, sum, s);
+        if z == NONE {
+            return put_up(up, touched, k, w, NONE);
+        }
+        return cede(up, touched, k, w, z, s);
+    }
+    parent[c as usize] = NONE;
+    k
 }
