@@ -11,3 +11,5 @@ pub mod Touching
 pub mod Entering
 pub mod Leaving
 pub mod Inheriting
+pub mod Seeing
+pub mod Sweeping

@@ -6,6 +6,7 @@ use mathlib.Core.Logic.{_⊎_}
 use Prim.Native.Nat.{ℕ, zero, suc, _<_, _≤_}
 use lib.Dec.{eqb}
 use lib.ListN.{length, getD}
+use Rattle.tree.specs.Kept.{Kept}
 
 -- what the rules 5 and 7 of the check find of the edges' columns (left, right, parent, child), for n node rows with the times T
 pub record Checked (T l r pa ch : List ℕ) (n : ℕ) : Type 0 where
@@ -56,3 +57,16 @@ pub record Plan (T l r pa ch bl br : List ℕ) (n : ℕ) : Type 0 where
   pub checked : Checked T l r pa ch n
   pub lefts : Index l bl (length ch)
   pub rights : Index r br (length ch)
+
+-- of the edges by left the first i have begun, of those by right the first j have ended, and P holds the parents so
+pub record Between (l r pa ch bl br P : List ℕ) (i j lo hi from to : ℕ) : Type 0 where
+  pub begun : Cut l bl i lo hi
+  pub ended : Cut r br j from to
+  pub holds : Holds (acts bl br i j) ch pa P
+
+-- all columns are those of the edges that begin below y and do not end below y
+pub record Swept (T S P C M U l r pa ch bl br : List ℕ) (i j y : ℕ) : Type 0 where
+  pub kept : Kept T S P C M U
+  pub plan : Plan T l r pa ch bl br (length P)
+  pub ahead : Ahead l r bl br i j y
+  pub holds : Holds (acts bl br i j) ch pa P

@@ -3,11 +3,12 @@
 // a sample or has two.
 ghost use mathlib.Core.Path.{_≡_};
 ghost use mathlib.Core.Bool.{true};
-ghost use Prim.Native.Nat.{ℕ, _+_, _-_, _%_, _<_, _≤_};
+ghost use Prim.Native.Nat.{ℕ, _+_, _-_, _*_, _%_, _<_, _≤_};
 ghost use lib.ListN.{length, getD, set};
 ghost use Rattle.tree.specs.Right.{none, W, live, stands, feeds, Lacks, Excess, Right, Shape, Grows};
 ghost use Rattle.tree.specs.Line.{parOf, Low, Stop, Gained, Lost};
 ghost use Rattle.tree.specs.Kept.{Mended, Kept, Enters, Heir, Noted};
+ghost use Rattle.tree.specs.Sweep.{Plan, Between, Swept, Ahead};
 
 pub const NONE: u32 = 4294967295;
 
@@ -271,4 +272,120 @@ fn remove_up(
     }
     parent[c as usize] = NONE;
     k
+}
+
+// How far a sweep has come: edges begun in the order of left, edges ended in the order of right, and rows listed.
+pub struct Cursor {
+    pub begun: usize,
+    pub ended: usize,
+    pub touched: usize,
+}
+
+// The edges that end at x or before leave.
+fn end_edges(
+    time: &[u32],
+    sample: &[u8],
+    parent: &mut [u32],
+    count: &mut [u32],
+    sum: &mut [u32],
+    up: &mut [u32],
+    touched: &mut [u32],
+    left: &[u32],
+    right: &[u32],
+    above: &[u32],
+    child: &[u32],
+    bl: &[u32],
+    br: &[u32],
+    i: usize,
+    j0: usize,
+    k0: usize,
+    x: u32,
+) -> Cursor
+    requires { ⌜ Kept (now time) (now sample) (now parent) (now count) (now sum) (now up) × Plan (now time) (now left) (now right) (now above) (now child) (now bl) (now br) (length (now parent)) × Between (now left) (now right) (now above) (now child) (now bl) (now br) (now parent) i j0 x x x (x + 1) × (k0 + 3 * (length (now br) - j0) ≤ length (now touched)) ⌝ }
+    ensures { λ r. ⌜ Kept (now (time .entry)) (now (sample .entry)) (now (parent .exit)) (now (count .exit)) (now (sum .exit)) (now (up .exit)) × Between (now (left .entry)) (now (right .entry)) (now (above .entry)) (now (child .entry)) (now (bl .entry)) (now (br .entry)) (now (parent .exit)) i (r .ended) x x (x + 1) (x + 1) × Noted (length (now (up .entry))) (3 * (r .ended - j0)) (now (up .entry)) (now (up .exit)) (now (touched .entry)) (now (touched .exit)) k0 (r .touched) × (j0 ≤ r .ended) ⌝ }
+{
+    let mut j = j0;
+    let mut k = k0;
+    while j < br.len() {
+        let e = br[j];
+        if x < right[e as usize] {
+            return Cursor {
+                begun: i,
+                ended: j,
+                touched: k,
+            };
+        }
+        k = remove_up(
+            time,
+            sample,
+            parent,
+            count,
+            sum,
+            up,
+            touched,
+            k,
+            child[e as usize],
+        );
+        j += 1;
+    }
+    Cursor {
+        begun: i,
+        ended: j,
+        touched: k,
+    }
+}
+
+// The edges that begin at x or before enter.
+fn begin_edges(
+    time: &[u32],
+    sample: &[u8],
+    parent: &mut [u32],
+    count: &mut [u32],
+    sum: &mut [u32],
+    up: &mut [u32],
+    touched: &mut [u32],
+    left: &[u32],
+    right: &[u32],
+    above: &[u32],
+    child: &[u32],
+    bl: &[u32],
+    br: &[u32],
+    i0: usize,
+    j: usize,
+    k0: usize,
+    x: u32,
+) -> Cursor
+    requires { ⌜ Kept (now time) (now sample) (now parent) (now count) (now sum) (now up) × Plan (now time) (now left) (now right) (now above) (now child) (now bl) (now br) (length (now parent)) × Between (now left) (now right) (now above) (now child) (now bl) (now br) (now parent) i0 j x (x + 1) (x + 1) (x + 1) × (k0 + 3 * (length (now bl) - i0) ≤ length (now touched)) ⌝ }
+    ensures { λ r. ⌜ Kept (now (time .entry)) (now (sample .entry)) (now (parent .exit)) (now (count .exit)) (now (sum .exit)) (now (up .exit)) × Between (now (left .entry)) (now (right .entry)) (now (above .entry)) (now (child .entry)) (now (bl .entry)) (now (br .entry)) (now (parent .exit)) (r .begun) j (x + 1) (x + 1) (x + 1) (x + 1) × Noted (length (now (up .entry))) (3 * (r .begun - i0)) (now (up .entry)) (now (up .exit)) (now (touched .entry)) (now (touched .exit)) k0 (r .touched) × (i0 ≤ r .begun) × (r .ended ≡ j) ⌝ }
+{
+    let mut i = i0;
+    let mut k = k0;
+    while i < bl.len() {
+        let e = bl[i];
+        if x < left[e as usize] {
+            return Cursor {
+                begun: i,
+                ended: j,
+                touched: k,
+            };
+        }
+        k = insert_up(
+            time,
+            sample,
+            parent,
+            count,
+            sum,
+            up,
+            touched,
+            k,
+            child[e as usize],
+            above[e as usize],
+        );
+        i += 1;
+    }
+    Cursor {
+        begun: i,
+        ended: j,
+        touched: k,
+    }
 }
