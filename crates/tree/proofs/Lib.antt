@@ -13,3 +13,6 @@ pub mod Leaving
 pub mod Inheriting
 pub mod Seeing
 pub mod Sweeping
+pub mod Reaching
+pub mod Placing
+pub mod Meaning
