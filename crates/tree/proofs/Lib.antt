@@ -16,3 +16,5 @@ pub mod Sweeping
 pub mod Reaching
 pub mod Placing
 pub mod Meaning
+pub mod Lowering
+pub mod Moving

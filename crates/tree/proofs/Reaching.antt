@@ -51,6 +51,13 @@ unfolding total
 total-same f h zero s = refl
 total-same f h (suc n) s = ap₂ _+_ (total-same f h n (λ v l. s v (omega arith))) (ap (λ (b : Bool). pick b 1 0) (s n (omega arith)))
 
+-- no number that is no row stands
+past : (X : List ℕ) (n : ℕ) → length X ≡ n → (u : ℕ) → n ≤ u → length X ≤ u
+past X n e u l = omega arith
+
+pub no-row : {T S P C M : List ℕ} → Mended T S P C M → (u : ℕ) → length P ≤ u → stands S C u ≡ false
+no-row {T} {S} {P} {C} {M} md u l = stands-no-sample S C u (omega (arith, List·getD-eq-default S 0 (past S (length P) (md .shape .samples) u l))) ∙ le-ltb 1 (getD C u 0) (omega (arith, List·getD-eq-default C 0 (past C (length P) (md .shape .counts) u l)))
+
 module _ {T S P C M Q : List ℕ} (md : Mended T S P C M) (fl : Flags S Q (length P)) where
   pub aged : Aged (parOf P) (λ (v : ℕ). getD T v 0)
   aged = record {
@@ -98,7 +105,7 @@ module _ {T S P C M Q : List ℕ} (md : Mended T S P C M) (fl : Flags S Q (lengt
   unfolding stands def.stands
   stands-def u l = ap₂ or (sample-mem u l) (two-leb (getD C u 0) ∙ ap (leb 2) (count-reached u l))
 
-  -- no number that is no row stands, either way
+  -- nor by the definitions
   no-row-def : (u : ℕ) → length P ≤ u → def.stands (nodeRows (length P)) (parOf P) Q u ≡ false
   unfolding def.stands
   no-row-def u l = ap₂ or (not-true (mem u Q) (λ e. omega (arith, fl .set u e .0))) (lt-leb 2 (count (def.feeds (parOf P) (reached (parOf P) Q) u) (nodeRows (length P))) (omega (arith, none-feeds)))
@@ -109,11 +116,5 @@ module _ {T S P C M Q : List ℕ} (md : Mended T S P C M) (fl : Flags S Q (lengt
           (λ k. omega (arith, k, count-rows (def.feeds (parOf P) (reached (parOf P) Q) u) (length P)))
           (lt? 0 (total one (def.feeds (parOf P) (reached (parOf P) Q) u) (length P)))
 
-  past : (X : List ℕ) → length X ≡ length P → (u : ℕ) → length P ≤ u → length X ≤ u
-  past X e u l = omega arith
-
-  no-row : (u : ℕ) → length P ≤ u → stands S C u ≡ false
-  no-row u l = stands-no-sample S C u (omega (arith, List·getD-eq-default S 0 (past S (md .shape .samples) u l))) ∙ le-ltb 1 (getD C u 0) (omega (arith, List·getD-eq-default C 0 (past C (md .shape .counts) u l)))
-
   pub stands-all : stands S C ≡ def.stands (nodeRows (length P)) (parOf P) Q
-  stands-all = fun-ext (λ u. ⊎-elim (λ (l : u < length P). stands-def u l) (λ (l : length P ≤ u). no-row u l ∙ sym (no-row-def u l)) (lt? u (length P)))
+  stands-all = fun-ext (λ u. ⊎-elim (λ (l : u < length P). stands-def u l) (λ (l : length P ≤ u). no-row md u l ∙ sym (no-row-def u l)) (lt? u (length P)))

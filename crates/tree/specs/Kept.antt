@@ -46,3 +46,8 @@ pub record Enters (T P : List ℕ) (c p : ℕ) : Type 0 where
   pub parent : p < length P
   pub free : getD P c 0 ≡ 4294967295
   pub older : getD T c 0 < getD T p 0
+
+-- the n cells of X are all v
+pub record Filled (X : List ℕ) (n v : ℕ) : Type 0 where
+  pub long : length X ≡ n
+  pub cells : (u : ℕ) → u < n → getD X u 0 ≡ v

@@ -4,7 +4,8 @@ use mathlib.Core.Bool.{Bool, true, false}
 use mathlib.Core.List.{List}
 use mathlib.Core.Logic.{_⊎_}
 use Prim.Native.Nat.{ℕ, zero, suc, _<_, _≤_}
-use lib.Dec.{eqb}
+use lib.Dec.{eqb, ltb}
+use Rattle.tree.specs.Right.{pick}
 use lib.ListN.{length, getD}
 use Rattle.tree.specs.Kept.{Kept}
 
@@ -70,3 +71,12 @@ pub record Swept (T S P C M U l r pa ch bl br : List ℕ) (i j y : ℕ) : Type 0
   pub plan : Plan T l r pa ch bl br (length P)
   pub ahead : Ahead l r bl br i j y
   pub holds : Holds (acts bl br i j) ch pa P
+
+-- the key at the cursor i of b, if it is below most; most otherwise
+unfoldable pub nextKey : List ℕ → List ℕ → ℕ → ℕ → ℕ
+nextKey key b i most = elim (ltb i (length b)) [ true ↦ pick (ltb (getD key (getD b i 0) 0) most) (getD key (getD b i 0) 0) most | false ↦ most ]
+
+-- the next position where an edge begins or ends, or len
+unfoldable pub nextChange : List ℕ → List ℕ → List ℕ → List ℕ → ℕ → ℕ → ℕ → ℕ
+unfolding nextKey
+nextChange l r bl br i j len = nextKey r br j (nextKey l bl i len)

@@ -47,3 +47,8 @@ pub record TreeAt (E : EdgeColumns) (Q : List ℕ) (n x : ℕ) (S P C U : List �
   pub reaches : (u : ℕ) → u < n → live S C u ≡ def.reached (forestAt E x) Q u
   pub stood : (u : ℕ) → u < n → stands S C u ≡ standsAt E Q n x u
   pub ups : U ≡ rows (λ u. code (drawn (forestAt E x) (standsAt E Q n x) u)) n
+
+-- the nearest standing row at or below u at x, or none where u is not reached
+unfoldable pub lowAt : EdgeColumns → List ℕ → ℕ → ℕ → ℕ → Option ℕ
+unfolding forestAt standsAt rows def.low def.reached
+lowAt E Q n x u = def.low (nodeRows n) (forestAt E x) (def.reached (forestAt E x) Q) (standsAt E Q n x) def.Ages u

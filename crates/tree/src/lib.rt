@@ -7,8 +7,11 @@ ghost use Prim.Native.Nat.{ℕ, _+_, _-_, _*_, _%_, _<_, _≤_};
 ghost use lib.ListN.{length, getD, set};
 ghost use Rattle.tree.specs.Right.{none, W, live, stands, feeds, Lacks, Excess, Right, Shape, Grows};
 ghost use Rattle.tree.specs.Line.{parOf, Low, Stop, Gained, Lost};
-ghost use Rattle.tree.specs.Kept.{Mended, Kept, Enters, Heir, Noted};
-ghost use Rattle.tree.specs.Sweep.{Plan, Between, Swept, Ahead};
+ghost use Rattle.tree.specs.Kept.{Mended, Kept, Enters, Heir, Noted, Filled};
+ghost use Rattle.tree.specs.Sweep.{Plan, Between, Swept, Index, nextKey, nextChange};
+ghost use Rattle.tree.specs.TreeAt.{columns, forestAt, lowAt, code, Flags, TreeAt};
+ghost use Rattle.meaning.specs.Rows.{EdgeColumns};
+ghost use mathlib.Core.List.{List};
 
 pub const NONE: u32 = 4294967295;
 
@@ -388,4 +391,159 @@ fn begin_edges(
         ended: j,
         touched: k,
     }
+}
+
+// From the change before, or from the start, to the change at x: the edges that end at x leave, then those that begin at x enter.
+pub fn advance(
+    time: &[u32],
+    sample: &[u8],
+    parent: &mut [u32],
+    count: &mut [u32],
+    sum: &mut [u32],
+    up: &mut [u32],
+    touched: &mut [u32],
+    left: &[u32],
+    right: &[u32],
+    above: &[u32],
+    child: &[u32],
+    bl: &[u32],
+    br: &[u32],
+    i: usize,
+    j: usize,
+    x: u32,
+) -> Cursor
+    requires { ⌜ Swept (now time) (now sample) (now parent) (now count) (now sum) (now up) (now left) (now right) (now above) (now child) (now bl) (now br) i j x × (3 * (length (now bl) - i) + 3 * (length (now br) - j) ≤ length (now touched)) ⌝ }
+    ensures { λ r. ⌜ Swept (now (time .entry)) (now (sample .entry)) (now (parent .exit)) (now (count .exit)) (now (sum .exit)) (now (up .exit)) (now (left .entry)) (now (right .entry)) (now (above .entry)) (now (child .entry)) (now (bl .entry)) (now (br .entry)) (r .begun) (r .ended) (x + 1) × ((Q : List ℕ) → Flags (now (sample .entry)) Q (length (now (parent .exit))) → TreeAt (columns (now (left .entry)) (now (right .entry)) (now (above .entry)) (now (child .entry))) Q (length (now (parent .exit))) x (now (sample .entry)) (now (parent .exit)) (now (count .exit)) (now (up .exit))) × Noted (length (now (up .entry))) (3 * (r .begun - i) + 3 * (r .ended - j)) (now (up .entry)) (now (up .exit)) (now (touched .entry)) (now (touched .exit)) 0 (r .touched) ⌝ }
+{
+    let a = end_edges(
+        time,
+        sample,
+        parent,
+        count,
+        sum,
+        up,
+        touched,
+        left,
+        right,
+        above,
+        child,
+        bl,
+        br,
+        i,
+        j,
+        0,
+        x,
+    );
+    let ended = a.ended;
+    let k = a.touched;
+    begin_edges(
+        time,
+        sample,
+        parent,
+        count,
+        sum,
+        up,
+        touched,
+        left,
+        right,
+        above,
+        child,
+        bl,
+        br,
+        i,
+        ended,
+        k,
+        x,
+    )
+}
+
+// The key at the cursor i of b, if it is below most.
+fn next_key(key: &[u32], b: &[u32], i: usize, most: u32) -> u32
+    requires { ⌜ Index (now key) (now b) (length (now key)) ⌝ }
+    ensures { λ r. ⌜ r ≡ nextKey (now (key .entry)) (now (b .entry)) i most ⌝ }
+{
+    if b.len() <= i {
+        return most;
+    }
+    let e = b[i];
+    let v = key[e as usize];
+    if v < most {
+        return v;
+    }
+    most
+}
+
+// The next position where an edge begins or ends, or len.
+pub fn next_change(
+    left: &[u32],
+    right: &[u32],
+    bl: &[u32],
+    br: &[u32],
+    i: usize,
+    j: usize,
+    len: u32,
+) -> u32
+    requires { ⌜ Index (now left) (now bl) (length (now left)) × Index (now right) (now br) (length (now right)) ⌝ }
+    ensures { λ r. ⌜ r ≡ nextChange (now (left .entry)) (now (right .entry)) (now (bl .entry)) (now (br .entry)) i j len ⌝ }
+{
+    let y = next_key(left, bl, i, len);
+    next_key(right, br, j, y)
+}
+
+// Every cell is v.
+fn fill(column: &mut [u32], v: u32)
+    ensures { λ r. ⌜ Filled (now (column .exit)) (length (now (column .entry))) v ⌝ }
+{
+    let mut i = 0;
+    while i < column.len() {
+        column[i] = v;
+        i += 1;
+    }
+}
+
+// Every time is below 2^32, as its type says; the answer is the first.
+fn first_time(time: &[u32]) -> u32
+    ensures { λ r. ⌜ ((u : ℕ) → u < length (now (time .entry)) → getD (now (time .entry)) u 0 < W) ⌝ }
+{
+    if time.len() == 0 {
+        return 0;
+    }
+    time[0]
+}
+
+// The columns with no edge: a sweep starts so, before every edge.
+pub fn start(
+    time: &[u32],
+    sample: &[u8],
+    parent: &mut [u32],
+    count: &mut [u32],
+    sum: &mut [u32],
+    up: &mut [u32],
+)
+    requires { ⌜ Shape (now time) (now sample) (now parent) (now count) (now sum) × (length (now up) ≡ length (now parent)) ⌝ }
+    ensures { λ u. ⌜ ((l r pa ch bl br : List ℕ) → Plan (now (time .entry)) l r pa ch bl br (length (now (parent .exit))) → Swept (now (time .entry)) (now (sample .entry)) (now (parent .exit)) (now (count .exit)) (now (sum .exit)) (now (up .exit)) l r pa ch bl br 0 0 0) ⌝ }
+{
+    first_time(time);
+    fill(parent, NONE);
+    fill(count, 0);
+    fill(sum, 0);
+    fill(up, NONE);
+}
+
+// The nearest standing row at or below u, or none where u is not reached.
+pub fn low_at(
+    time: &[u32],
+    sample: &[u8],
+    parent: &[u32],
+    count: &[u32],
+    sum: &[u32],
+    u: u32,
+) -> u32
+    requires { ⌜ Mended (now time) (now sample) (now parent) (now count) (now sum) × (u < length (now parent)) ⌝ }
+    ensures { λ r. ⌜ ((E : EdgeColumns) (Q : List ℕ) (x : ℕ) → Flags (now (sample .entry)) Q (length (now (parent .entry))) → parOf (now (parent .entry)) ≡ forestAt E x → r ≡ code (lowAt E Q (length (now (parent .entry))) x u)) ⌝ }
+{
+    if alive(sample, count, u) {
+        return low(time, sample, parent, count, sum, u);
+    }
+    NONE
 }
