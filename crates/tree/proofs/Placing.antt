@@ -100,7 +100,8 @@ placed {T} {l} {r} {pa} {ch} {bl} {br} {P} {i} {j} x pl ah ho few = fun-ext (λ 
 
 -- ---- nothing changes where no edge begins or ends
 
-ahead-between : {l r bl br : List ℕ} {i j x y z : ℕ} → Ahead l r bl br i j x → Ahead l r bl br i j y → x ≤ z → z ≤ y → Ahead l r bl br i j z
+-- between two such positions the cursors stand right at each
+pub ahead-between : {l r bl br : List ℕ} {i j x y z : ℕ} → Ahead l r bl br i j x → Ahead l r bl br i j y → x ≤ z → z ≤ y → Ahead l r bl br i j z
 ahead-between a b h k = record {
   begun = record { within = a .begun .within; past = λ e m. omega (arith, a .begun .past e m); next = λ e m c. omega (arith, b .begun .next e m c) };
   ended = record { within = a .ended .within; past = λ e m. omega (arith, a .ended .past e m); next = λ e m c. omega (arith, b .ended .next e m c) };
