@@ -3,17 +3,17 @@ use mathlib.Core.Path.{_≡_, refl, sym, ap, subst, _∙_}
 use mathlib.Core.Bool.{Bool, true, false}
 use mathlib.Core.List.{List, [], _∷_}
 use mathlib.Core.Logic.{_⊎_, inl, inr, ⊎-elim}
-use Prim.Native.Nat.{ℕ, zero, suc, _+_, _<_, _≤_}
+use Prim.Native.Nat.{ℕ, zero, suc, _<_, _≤_}
 use native.Mathlib.Omega.{arith}
-use borrow.Author.Tests.{eq-eqb, ne-eqb, eqb-true, leb-false, lt-ltb, ltb-true}
+use borrow.Author.Tests.{eq-eqb, eqb-true, leb-false, lt-ltb}
 use lib.Dec.{eqb, leb, ltb}
 use lib.ListN.{length, getD}
-use Rattle.meaning.specs.Words.{and, or, at, mem, anyBelow, count, rows, rowsFrom, indexOf}
+use Rattle.meaning.specs.Words.{and, or, at, mem, count, rows, indexOf}
 use Rattle.meaning.specs.Rows.{EdgeColumns}
 use Rattle.meaning.specs.Check.{edgeBroken, share, edgeShared}
-use Rattle.laws.specs.Bools.{clash, or-no, and-yes, not-true, eq?}
+use Rattle.laws.specs.Bools.{clash, or-no, and-yes, eq?}
 use Rattle.laws.specs.Counting.{of-below}
-use Rattle.laws.specs.Members.{at-mem, index-at, index-below, mem-here, mem-there, mem-cases}
+use Rattle.laws.specs.Members.{at-mem, index-at, index-below}
 use Rattle.laws.specs.Facts.{Distinct, nil, cons}
 use Rattle.forest.specs.Passing.{count-yes, count-no, count-one, one-of}
 use Rattle.tree.specs.Sweep.{Checked, Index}

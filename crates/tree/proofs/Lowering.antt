@@ -1,7 +1,7 @@
 -- The row that the only live children lead to is the low of the definitions.
 use mathlib.Core.Path.{_≡_, refl, sym, ap, ap₂, subst, _∙_}
 use mathlib.Core.Bool.{Bool, true, false}
-use mathlib.Core.List.{List, [], _∷_}
+use mathlib.Core.List.{List, _∷_}
 use mathlib.Core.Option.{Option, none, some}
 use mathlib.Core.Logic.{_⊎_, inl, inr, ⊎-elim}
 use Prim.Native.Nat.{ℕ, zero, suc, _+_, _<_, _≤_}
@@ -15,7 +15,7 @@ use Rattle.laws.specs.Bools.{clash, not-true, eq?}
 use Rattle.laws.specs.Members.{mem-nil, mem-here, mem-there, mem-cases}
 use Rattle.laws.specs.Facts.{In, Distinct, nil, cons}
 use Rattle.forest.specs.Passing.{first-some, first-of}
-use Rattle.forest.specs.TreeLaws.{Aged, Nodes, feeds-of, of-feeds}
+use Rattle.forest.specs.TreeLaws.{Nodes, feeds-of, of-feeds}
 use Rattle.forest.specs.Lowest.{Rule, stands-rule}
 use Rattle.forest.specs.Code.{low-here, low-on}
 use Rattle.tree.specs.Right.{live, stands}

@@ -3,24 +3,24 @@ use mathlib.Core.Path.{_≡_, refl, sym, ap, ap₂, subst, _∙_}
 use mathlib.Core.Bool.{Bool, true, false}
 use mathlib.Core.List.{List}
 use mathlib.Core.Option.{Option, none, some}
-use mathlib.Core.Logic.{_⊎_, inl, inr, ⊎-elim}
-use Prim.Native.Nat.{ℕ, zero, suc, _+_, _<_, _≤_}
+use mathlib.Core.Logic.{⊎-elim}
+use Prim.Native.Nat.{ℕ, _+_, _<_, _≤_}
 use native.Mathlib.Omega.{arith}
 use lib.ListN.{length, getD}
 use lib.Seq.{ext-getD}
-use Rattle.meaning.specs.Words.{rows, firstOf}
+use Rattle.meaning.specs.Words.{rows}
 use Rattle.meaning.specs.Rows.{EdgeColumns}
 use Rattle.meaning.specs.Forest as def
-use Rattle.meaning.specs.Forest.{Par, Ages, reached, up, drawn}
-use Rattle.laws.specs.Bools.{clash, truth, eq?, none-some, some-inj}
+use Rattle.meaning.specs.Forest.{Par, reached, up, drawn}
+use Rattle.laws.specs.Bools.{truth, eq?, none-some, some-inj}
 use Rattle.laws.specs.Counting.{length-rows, get-rows}
 use Rattle.forest.specs.Contract.{Near, found, Up}
 use Rattle.forest.specs.Contract as contract
 use Rattle.forest.specs.TreeLaws.{Aged, up-of, of-up}
 use Rattle.tree.specs.Right as right
-use Rattle.tree.specs.Right.{live, stands}
+use Rattle.tree.specs.Right.{stands}
 use Rattle.tree.specs.Line.{parOf, opt, Over, root, hit, on}
-use Rattle.tree.specs.Kept.{Mended, UpOk, Kept}
+use Rattle.tree.specs.Kept.{Kept}
 use Rattle.tree.specs.Sweep.{Ahead, Swept}
 use Rattle.tree.specs.TreeAt.{code, columns, forestAt, standsAt, nodeRows, Flags, TreeAt}
 use Rattle.tree.proofs.Reading.{opt-none, opt-some, par-in}

@@ -1,7 +1,6 @@
 -- `tree::mend::alive` meets its contract.
 use mathlib.Core.Path.{sym}
 use Rattle.tree.proofs.Reading.{live-sample, live-no-sample}
-use native.Mathlib.Omega.{arith}
 use borrow.Author.Needs.{needs}
 use Rattle.tree.proofs.mend.alive.Statement.{statement}
 use Rattle.tree.proofs.mend.alive.Tie as tie

@@ -1,8 +1,7 @@
 -- `tree::mend::bump` meets its contract.
 use Prim.Native.Nat.{ℕ}
-use mathlib.Core.Path.{_≡_, refl, ap}
+use mathlib.Core.Path.{refl, ap}
 use lib.ListN.{set}
-use native.Mathlib.Omega.{arith}
 use borrow.Author.Needs.{needs}
 use Rattle.tree.proofs.mend.bump.Statement.{statement}
 use Rattle.tree.proofs.mend.bump.Tie as tie

@@ -1,7 +1,7 @@
 -- `tree::mend::climb_down` meets its contract: each turn mends the row q, and what is in excess next is at its parent.
-use mathlib.Core.Path.{_≡_, refl, sym, ap, _∙_}
+use mathlib.Core.Path.{_≡_, refl, sym, _∙_}
 use Prim.Native.Nat.{ℕ, _<_, _≤_}
-use lib.ListN.{length, getD, set}
+use lib.ListN.{length, getD}
 use Rattle.tree.specs.Right.{none, live, stands, feeds, Excess, Shape, climb}
 use Rattle.tree.specs.Line.{Under}
 use Rattle.tree.proofs.Mending.{some, lose-stops, lose-goes, excess-end, shape-on, climb-falls}

@@ -1,7 +1,7 @@
 -- `tree::mend::climb_up` meets its contract.
-use mathlib.Core.Path.{_≡_, refl, sym, ap, _∙_}
-use Prim.Native.Nat.{ℕ, _<_}
-use lib.ListN.{length, getD, set}
+use mathlib.Core.Path.{_≡_, sym, _∙_}
+use Prim.Native.Nat.{_<_}
+use lib.ListN.{length}
 use Rattle.tree.specs.Right.{none, live, feeds, Lacks, Shape, climb}
 use Rattle.tree.specs.Line.{Climb}
 use Rattle.tree.proofs.Mending.{room, gain-stops, gain-goes, lacks-end, shape-on, climb-falls}

@@ -1,7 +1,7 @@
 -- `tree::mend::heir` meets its contract.
-use mathlib.Core.Path.{_≡_, refl, sym, _∙_}
+use mathlib.Core.Path.{refl, sym, _∙_}
 use native.Mathlib.Omega.{arith}
-use Rattle.tree.specs.Kept.{Heir, no-row, stood, below}
+use Rattle.tree.specs.Kept.{no-row, stood, below}
 use Rattle.tree.proofs.mend.heir.Statement.{statement}
 use Rattle.tree.proofs.mend.heir.Tie as tie
 

@@ -1,5 +1,5 @@
 -- `tree::mend::low` meets its contract: going down by the only live child keeps what is low for c.
-use mathlib.Core.Path.{_≡_, refl, sym, ap, _∙_}
+use mathlib.Core.Path.{_≡_, sym, _∙_}
 use mathlib.Core.Bool.{true}
 use Prim.Native.Nat.{ℕ, _<_}
 use lib.ListN.{length, getD}

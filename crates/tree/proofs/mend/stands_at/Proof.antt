@@ -1,7 +1,6 @@
 -- `tree::mend::stands_at` meets its contract.
 use mathlib.Core.Path.{sym}
 use Rattle.tree.proofs.Reading.{stands-sample, stands-no-sample}
-use native.Mathlib.Omega.{arith}
 use borrow.Author.Needs.{needs}
 use Rattle.tree.proofs.mend.stands_at.Statement.{statement}
 use Rattle.tree.proofs.mend.stands_at.Tie as tie

@@ -1,7 +1,7 @@
 -- `tree::mend::stop` meets its contract.
-use mathlib.Core.Path.{_≡_, refl, sym, ap, _∙_}
+use mathlib.Core.Path.{_≡_, refl, sym, _∙_}
 use Prim.Native.Nat.{ℕ, _<_}
-use lib.ListN.{length, getD}
+use lib.ListN.{length}
 use Rattle.tree.specs.Right.{none, live, climb}
 use Rattle.tree.specs.Line.{Stop, ends, at, over}
 use Rattle.tree.proofs.Mending.{climb-falls}

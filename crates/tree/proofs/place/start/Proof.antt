@@ -1,5 +1,4 @@
 -- `tree::place::start` meets its contract: with no edge every column is right.
-use mathlib.Core.Path.{_≡_, refl, sym, _∙_}
 use Rattle.tree.proofs.Moving.{filled-on, swept-start}
 use native.Mathlib.Omega.{arith}
 use borrow.Author.Needs.{needs}

@@ -1,7 +1,5 @@
 -- `tree::sweep::advance` meets its contract: edges end, then edges begin, and the columns are the tree at x.
-use mathlib.Core.Path.{_≡_, refl, sym, subst, _∙_}
-use Prim.Native.Nat.{ℕ, _+_, _-_, _*_, _<_, _≤_}
-use lib.ListN.{length}
+use mathlib.Core.Path.{sym, _∙_}
 use Rattle.tree.proofs.Touching.{noted-then}
 use Rattle.tree.proofs.Sweeping.{plan-on}
 use Rattle.tree.proofs.Moving.{set-off, turn, arrive}

@@ -1,6 +1,6 @@
 -- `tree::sweep::begin_edges` meets its contract: each turn begins the edge at the cursor.
-use mathlib.Core.Path.{_≡_, refl, sym, _∙_}
-use Prim.Native.Nat.{ℕ, _+_, _-_, _*_, _<_, _≤_}
+use mathlib.Core.Path.{_≡_, refl, _∙_}
+use Prim.Native.Nat.{_+_, _-_, _*_, _≤_}
 use lib.ListN.{length}
 use Rattle.tree.specs.Kept.{Kept, Noted}
 use Rattle.tree.specs.Sweep.{Between}

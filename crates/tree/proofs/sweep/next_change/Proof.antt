@@ -1,5 +1,5 @@
 -- `tree::sweep::next_change` meets its contract.
-use mathlib.Core.Path.{_≡_, ap, _∙_}
+use mathlib.Core.Path.{ap, _∙_}
 use Prim.Native.Nat.{ℕ}
 use Rattle.tree.specs.Sweep.{nextKey, nextChange}
 use borrow.Author.Needs.{needs}

@@ -1,5 +1,5 @@
 -- `tree::sweep::next_key` meets its contract.
-use mathlib.Core.Path.{_≡_, sym}
+use mathlib.Core.Path.{sym}
 use Rattle.tree.proofs.Moving.{key-past, key-low, key-high}
 use borrow.Author.Needs.{needs}
 use Rattle.tree.proofs.sweep.next_key.Statement.{statement}
