@@ -12,11 +12,40 @@ use Rattle.meaning.specs.Answer.{put}
 use Rattle.laws.specs.Counting.{length-rows, get-rows}
 use Rattle.tree.specs.TreeAt.{Flags}
 use Rattle.tree.proofs.Reading.{lt?}
-use Rattle.runs.specs.Runs.{Store}
+use Rattle.runs.specs.Runs.{Store, Room, Opened}
 use Rattle.runs.specs.Promises.{Closed}
-use Rattle.runs.specs.Sized.{collected-after}
+use Rattle.runs.specs.Sized.{opened-own, room-own, collected-after}
 use Rattle.sweep.specs.Columns.{Input, State, lowCell}
 use Rattle.sweep.specs.Sweeping.{Steady, Going, Came, Done}
+
+-- ---- steps one after the other
+
+pub steady-on : {L : ℕ} {I : Input} {t k x : ℕ} {Z : State} → t ≡ k → Steady L I t x Z → Steady L I k x Z
+steady-on e st = rw e at st
+
+pub came-none : {L : ℕ} {I : Input} {t x : ℕ} {Z : State} → Steady L I t x Z → Came L I t x Z x Z
+came-none st = record { steady = st; later = record { long = refl; more = omega arith; rest = λ i l. refl }; going = λ Q fl F g. (F, g) }
+
+pub came-then : {L : ℕ} {I : Input} {t k x y z : ℕ} {A B C : State} → k ≡ t → Came L I t x A y B → Came L I k y B z C → Came L I t x A z C
+came-then e a b = record {
+  steady = steady-on e (b .steady);
+  later = record {
+    long = b .later .long ∙ a .later .long;
+    more = omega (arith, a .later .more, b .later .more);
+    rest = λ i l. b .later .rest i l ∙ a .later .rest i (omega (arith, b .later .more));
+  };
+  going = λ Q fl F g. let r : _ = a .going Q fl F g in b .going Q fl (r .0) (r .1);
+}
+
+-- ---- the end
+
+-- what finishing the open runs asks
+pub close-ready : {L : ℕ} {I : Input} {t x : ℕ} {Z : State} → Steady L I t x Z → Opened (length (Z .runs .par)) (Z .runs) × Room (length (Z .runs .par)) (Z .store) × (length (Z .runs .par) ≤ 4294967295)
+close-ready {I = I} {Z = Z} st = (
+  opened-own (length (I .time)) (Z .runs) (Z .store) (Z .store) (st .runs),
+  room-own (length (I .time)) (Z .runs) (Z .store) (Z .store) (st .runs) (st .room),
+  omega (arith, st .runs .par-long, st .tree .kept .mended .shape .times, st .tree .kept .mended .shape .rows),
+)
 
 -- k cells made by f, and those of M past them
 put-cells : (f : ℕ → ℕ) (k : ℕ) (M M' : List ℕ) → length M' ≡ length M → k ≤ length M → ((i : ℕ) → i < k → at M' i ≡ f i) → ((i : ℕ) → k ≤ i → at M' i ≡ at M i) → M' ≡ put (rows f k) M

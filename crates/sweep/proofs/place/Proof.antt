@@ -8,9 +8,6 @@ use Rattle.sweep.specs.Placing.{Between}
 use Rattle.sweep.proofs.Giving.{none-given, one-given}
 use Rattle.sweep.proofs.place.Statement.{statement}
 use Rattle.sweep.proofs.place.Tie as tie
-use Rattle.sweep.proofs.place.Reads as reads
-use Rattle.sweep.proofs.place.Lts as lts
-use Rattle.tree.proofs.low_at.Reads as low-at-reads
 
 abbrev Inv-loop : tie.InvT-loop
 Inv-loop time sample par count sum position site node mlow₀ m0 next m₀ mlow m = Between sample par position site node next mlow₀ m0 mlow m
