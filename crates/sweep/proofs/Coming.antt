@@ -1,18 +1,17 @@
 -- What a step leaves: the columns at the next change, and one list of finished edges for each one before.
-use mathlib.Core.Path.{_≡_, refl, sym, ap, _∙_}
+use mathlib.Core.Path.{_≡_, sym, ap, _∙_}
 use mathlib.Core.List.{List}
-use mathlib.Core.Logic.{_⊎_, inl, inr, ⊎-elim}
+use mathlib.Core.Logic.{⊎-elim}
 use Prim.Native.Nat.{ℕ, _+_, _<_, _≤_}
 use native.Mathlib.Omega.{arith}
-use lib.ListN.{length, getD}
+use lib.ListN.{length}
 use Rattle.meaning.specs.Words.{at}
 use Rattle.meaning.specs.Rows.{Edge}
-use Rattle.tree.specs.Line.{parOf}
 use Rattle.tree.specs.Kept.{Noted}
 use Rattle.tree.specs.Sweep as tree
 use Rattle.tree.specs.Sweep.{Ahead, nextChange}
 use Rattle.tree.specs.TreeAt as tree-at
-use Rattle.tree.specs.TreeAt.{Flags, TreeAt, forestAt, lowAt}
+use Rattle.tree.specs.TreeAt.{Flags, TreeAt, lowAt}
 use Rattle.tree.proofs.Reading.{lt?}
 use Rattle.tree.proofs.Moving.{next-ahead}
 use Rattle.runs.specs.Runs.{code, Room, Settled, Stored}

@@ -1,10 +1,10 @@
 -- One mutation more gets its nearest standing row.
-use mathlib.Core.Path.{_≡_, refl, sym, ap, _∙_}
+use mathlib.Core.Path.{_≡_, refl, _∙_}
 use mathlib.Core.List.{List}
-use mathlib.Core.Logic.{_⊎_, ⊎-elim}
+use mathlib.Core.Logic.{⊎-elim}
 use Prim.Native.Nat.{ℕ, _+_, _<_, _≤_}
 use native.Mathlib.Omega.{arith}
-use lib.ListN.{length, getD, set, length-set}
+use lib.ListN.{length, set, length-set}
 use lib.Seq.{getD-set-same, getD-set-other}
 use Rattle.meaning.specs.Words.{at}
 use Rattle.meaning.specs.Rows.{EdgeColumns}
@@ -12,7 +12,7 @@ use Rattle.laws.specs.Bools.{eq?}
 use Rattle.tree.specs.Line.{parOf}
 use Rattle.tree.specs.TreeAt as tree
 use Rattle.tree.specs.TreeAt.{Flags, forestAt, lowAt}
-use Rattle.sweep.specs.Placing.{Between, Placed}
+use Rattle.sweep.specs.Placing.{Between}
 
 module _ {S P position site node : List ℕ} {next : ℕ} {M : List ℕ} {m : ℕ} where
   pub none-given : m ≤ length site → Between S P position site node next M m M m

@@ -1,23 +1,22 @@
 -- An output parent is a row, and a cell of the tree's columns is the code of what the definitions by rows say.
-use mathlib.Core.Path.{_≡_, refl, sym, ap, _∙_}
+use mathlib.Core.Path.{_≡_, refl, ap, _∙_}
 use mathlib.Core.Bool.{Bool, true, false}
 use mathlib.Core.List.{List}
 use mathlib.Core.Option.{Option, none, some}
-use Prim.Native.Nat.{ℕ, zero, suc, _<_, _≤_}
+use Prim.Native.Nat.{ℕ, zero, suc, _<_}
 use native.Mathlib.Omega.{arith}
-use lib.ListN.{length, getD}
-use Rattle.meaning.specs.Words.{at, rows}
+use Rattle.meaning.specs.Words.{at}
 use Rattle.meaning.specs.Rows.{EdgeColumns, edgesOf}
-use Rattle.meaning.specs.Forest.{Par, Ages, near, up, drawn, parentIn}
+use Rattle.meaning.specs.Forest.{Par, Ages, near, up, drawn}
 use Rattle.laws.specs.Bools.{none-some, some-inj}
 use Rattle.laws.specs.Counting.{get-rows}
-use Rattle.accepted.specs.Records.{Row, row-of}
+use Rattle.accepted.specs.Records.{row-of}
 use Rattle.history.specs.Encode.{parent-of}
 use Rattle.byrows.specs.Rows.{allRows, forestRow, reachedRow, standsRow, upRow, lowRow}
 use Rattle.tree.specs.Sweep.{Checked}
 use Rattle.tree.specs.TreeAt as tree
 use Rattle.tree.specs.TreeAt.{TreeAt, forestAt, standsAt, lowAt}
-use Rattle.runs.specs.Runs.{no-row, code, Named}
+use Rattle.runs.specs.Runs.{code, Named}
 
 -- ---- rows
 

@@ -2,31 +2,24 @@
 use mathlib.Core.Path.{_≡_, refl, sym, ap, _∙_}
 use mathlib.Core.Bool.{Bool, true, false}
 use mathlib.Core.List.{List}
-use mathlib.Core.Option.{Option, none, some}
-use mathlib.Core.Logic.{_⊎_, inl, inr, ⊎-elim}
+use mathlib.Core.Option.{Option, some}
+use mathlib.Core.Logic.{⊎-elim}
 use Prim.Native.Nat.{ℕ, _+_, _-_, _*_, _<_, _≤_}
 use native.Mathlib.Omega.{arith}
 use lib.ListN.{length, getD}
 use Rattle.meaning.specs.Words.{at}
-use Rattle.meaning.specs.Rows.{Edge}
-use Rattle.laws.specs.Bools.{clash, truth, eq?, none-some, some-inj}
+use Rattle.laws.specs.Bools.{eq?, none-some, some-inj}
 use Rattle.tree.specs.Right.{stands}
-use Rattle.tree.specs.Line.{parOf, opt, Over, root, hit, on}
+use Rattle.tree.specs.Line.{parOf, Over, root, hit, on}
 use Rattle.tree.specs.Kept.{Kept, Noted}
 use Rattle.tree.specs.Sweep as tree
-use Rattle.tree.specs.Sweep.{Ahead, nextChange}
-use Rattle.tree.specs.TreeAt.{Flags, TreeAt}
-use Rattle.tree.proofs.Reading.{lt?, par-of, opt-some}
-use Rattle.tree.proofs.Moving.{next-ahead}
-use Rattle.runs.specs.Runs.{no-row, code, Named, Room, Settled, Stored}
-use Rattle.runs.specs.Promises.{Ready, Touched, ChangeSettled}
-use Rattle.runs.specs.Sized.{ready-of, opened-after, settled-after}
-use Rattle.runs.specs.Sweep.{swept-on}
-use Rattle.sweep.specs.Columns.{Input, State, edgesIn, upIn, positionOf, lowCell, Sited}
-use Rattle.sweep.specs.Placing.{Placeable, Placed}
-use Rattle.sweep.specs.Sweeping.{Steady, Going, Later, Came}
-use Rattle.sweep.proofs.Still.{up-same, low-same}
-use Rattle.sweep.proofs.Inside.{up-cell, low-cell}
+use Rattle.tree.proofs.Reading.{par-of, opt-some}
+use Rattle.runs.specs.Runs.{no-row, Named}
+use Rattle.runs.specs.Promises.{Ready}
+use Rattle.runs.specs.Sized.{ready-of}
+use Rattle.sweep.specs.Columns.{Input, State, positionOf, Sited}
+use Rattle.sweep.specs.Placing.{Placeable}
+use Rattle.sweep.specs.Sweeping.{Steady}
 
 -- ---- a cell of the tree's output parents holds a row or none
 

@@ -5,7 +5,7 @@ use mathlib.Core.List.{List}
 use mathlib.Core.Logic.{_⊎_, inl, inr, ⊎-elim}
 use Prim.Native.Nat.{ℕ, _<_, _≤_}
 use native.Mathlib.Omega.{arith}
-use lib.ListN.{length, getD}
+use lib.ListN.{length}
 use Rattle.meaning.specs.Words.{at, mem, rows}
 use Rattle.meaning.specs.Rows.{NodeColumns, EdgeColumns, Tables}
 use Rattle.laws.specs.Bools.{truth}

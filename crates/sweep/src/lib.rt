@@ -1,7 +1,6 @@
 // The sweep along the chromosome: from change to change the tree is brought up to date, the runs are settled and the
 // mutations get their nearest standing row.
-ghost use mathlib.Core.Path.{_≡_};
-ghost use Prim.Native.Nat.{ℕ, _<_, _≤_};
+ghost use Prim.Native.Nat.{ℕ, _<_};
 ghost use lib.ListN.{length};
 ghost use Rattle.tree.specs.Kept.{Mended, Filled};
 ghost use Rattle.tree.specs.TreeAt.{Flags};

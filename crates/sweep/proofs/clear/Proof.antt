@@ -1,5 +1,5 @@
 -- `sweep::clear` meets its contract: the cells before i are 0.
-use mathlib.Core.Path.{_≡_, refl, sym, ap, _∙_}
+use mathlib.Core.Path.{_≡_, refl}
 use Prim.Native.Nat.{ℕ, _-_, _<_, _≤_}
 use lib.ListN.{length, getD, length-set}
 use Rattle.tree.proofs.Moving.{fill-on}

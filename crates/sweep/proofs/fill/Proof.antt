@@ -1,5 +1,5 @@
 -- `sweep::fill` meets its contract: the cells before i are v.
-use mathlib.Core.Path.{_≡_, refl, sym, ap, _∙_}
+use mathlib.Core.Path.{_≡_, refl}
 use Prim.Native.Nat.{ℕ, _-_, _<_, _≤_}
 use lib.ListN.{length, getD, length-set}
 use Rattle.tree.proofs.Moving.{fill-on}
