@@ -1,8 +1,10 @@
 -- What a writer promises: which bytes stand where afterwards, and where the next ones go.
 use mathlib.Core.Path.{_≡_}
-use mathlib.Core.List.{List, _++_}
+use mathlib.Core.List.{List, _∷_, _++_}
 use Prim.Native.Nat.{ℕ, _+_, _*_, _≤_}
 use lib.ListN.{length, take, drop}
+use Rattle.meaning.specs.Words.{at}
+use Rattle.listing.specs.Listing.{decimal}
 
 -- new bytes laid into the old ones from offset o on
 unfoldable pub lay : ℕ → List ℕ → List ℕ → List ℕ
@@ -18,3 +20,7 @@ pub record Wrote (o : ℕ) (new old out : List ℕ) (r : ℕ) : Type 0 where
 -- most 20 digits, another number 10, a state 3
 abbrev pub room : ℕ → ℕ → ℕ → ℕ → ℕ → ℕ
 room nodes edges sites mutations rows = 13 + (nodes * 45 + (edges * 46 + (sites * 17 + (mutations * 28 + rows * 34))))
+
+-- number j of a line's, after its space
+abbrev pub spaced : List ℕ → ℕ → List ℕ
+spaced ns j = 32 ∷ decimal (at ns j)

@@ -1,0 +1,4 @@
+-- Laws of the listing's bytes and of bytes written one after the other.
+pub mod Digits
+pub mod Writing
+pub mod Going
