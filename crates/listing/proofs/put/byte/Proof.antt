@@ -1,3 +1,5 @@
+-- `listing::put::byte` meets its contract: one cell is set. Assumes nothing.
+use Rattle.listing.proofs.Writing.{wrote-byte}
 use native.Mathlib.Omega.{arith}
 use borrow.Author.Needs.{needs}
 use Rattle.listing.proofs.put.byte.Statement.{statement}
@@ -15,7 +17,7 @@ same-length : tie.Need-same-length
 same-length c = search needs
 
 returns : tie.Need-returns
-returns c = search needs
+returns c = wrote-byte (c .args .at) (c .args .b) (c .args .out .now) (omega arith)
 
 pub byte-spec : {M : Type 1} → statement M
 byte-spec = tie.close (tie.spec slice-write-out add-result same-length returns)
