@@ -56,9 +56,20 @@ wrote-then {o} {p} {r} {a} {b} {old} {mid} {out} v w =
       cells = w .cells ∙ ap (lay p b) (v .cells) ∙ lay-then o p a b old q (omega (arith, w .fits));
     }
 
+-- room for two pieces is room for the first
+pub room-first : (o : ℕ) (a b old : List ℕ) → o + length (a ++ b) ≤ length old → o + length a ≤ length old
+room-first o a b old h = omega (arith, length-append a b)
+
+-- and, once that is written, for the second
+pub room-then : {o p : ℕ} {a old mid : List ℕ} (b : List ℕ) → Wrote o a old mid p → o + length (a ++ b) ≤ length old → p + length b ≤ length mid
+room-then {o} {p} {a} {old} {mid} b w h = omega (arith, length-append a b, wrote-length w, w .next)
+
 -- the same bytes by another name
 pub wrote-as : {o r : ℕ} {a b old out : List ℕ} → a ≡ b → Wrote o a old out r → Wrote o b old out r
 wrote-as {o} {r} {a} {b} {old} {out} e w = subst (λ (l : List ℕ). Wrote o l old out r) e w
+
+pub room-as : (o : ℕ) {a b : List ℕ} (old : List ℕ) → a ≡ b → o + length a ≤ length old → o + length b ≤ length old
+room-as o old e h = omega (arith, ap length e)
 
 -- bytes written from offset 0 on stand at the front
 pub wrote-front : {r : ℕ} {new old out : List ℕ} → Wrote 0 new old out r → (r ≡ length new) × (out ≡ put new old)
