@@ -28,7 +28,7 @@ lines-most f m zero h = omega arith
 lines-most f m (suc n) h = omega (arith, length-append (lines f n) (f n), h n (omega arith), lines-most f m n (λ i l. h i (omega arith)), suc-mul n m)
 
 -- the first row's bytes, and those of the rows behind it
-lines-first : (f : ℕ → List ℕ) (n : ℕ) → lines f (suc n) ≡ f 0 ++ lines (λ i. f (suc i)) n
+pub lines-first : (f : ℕ → List ℕ) (n : ℕ) → lines f (suc n) ≡ f 0 ++ lines (λ i. f (suc i)) n
 unfolding lines
 lines-first f zero = sym (append-nil (f 0))
 lines-first f (suc n) = ap (λ (l : List ℕ). l ++ f (suc n)) (lines-first f n) ∙ append-assoc (f 0) (lines (λ i. f (suc i)) n) (f (suc n))

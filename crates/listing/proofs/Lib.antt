@@ -2,3 +2,4 @@
 pub mod Digits
 pub mod Writing
 pub mod Going
+pub mod Pieces

@@ -3,7 +3,7 @@ ghost use mathlib.Core.Path.{_≡_};
 ghost use mathlib.Core.List.{List, [], _∷_};
 ghost use Prim.Native.Nat.{ℕ, _+_, _<_, _≤_};
 ghost use lib.ListN.{length};
-ghost use Rattle.listing.specs.Listing.{decimal, numbers, lines};
+ghost use Rattle.listing.specs.Listing.{decimal, numbers, lines, outRow};
 ghost use Rattle.listing.specs.Written.{Wrote, spaced};
 
 pub fn byte(out: &mut [u8], at: usize, b: u8) -> usize
@@ -59,11 +59,59 @@ pub fn line(out: &mut [u8], at: usize, letter: u8, ns: &[usize]) -> usize
     byte(out, q, 10)
 }
 
-// One line of three numbers.
+pub fn two(out: &mut [u8], at: usize, letter: u8, a: usize, b: usize) -> usize
+    requires { ⌜ at + length (numbers letter (a ∷ b ∷ [])) ≤ length (now out) ⌝ }
+    ensures { λ r. ⌜ Wrote at (numbers letter (a ∷ b ∷ [])) (now (out .entry)) (now (out .exit)) r ⌝ }
+{
+    let ns = [a, b];
+    line(out, at, letter, &ns)
+}
+
 pub fn three(out: &mut [u8], at: usize, letter: u8, a: usize, b: usize, c: usize) -> usize
     requires { ⌜ at + length (numbers letter (a ∷ b ∷ c ∷ [])) ≤ length (now out) ⌝ }
     ensures { λ r. ⌜ Wrote at (numbers letter (a ∷ b ∷ c ∷ [])) (now (out .entry)) (now (out .exit)) r ⌝ }
 {
     let ns = [a, b, c];
     line(out, at, letter, &ns)
+}
+
+pub fn four(
+    out: &mut [u8],
+    at: usize,
+    letter: u8,
+    a: usize,
+    b: usize,
+    c: usize,
+    d: usize,
+) -> usize
+    requires { ⌜ at + length (numbers letter (a ∷ b ∷ c ∷ d ∷ [])) ≤ length (now out) ⌝ }
+    ensures { λ r. ⌜ Wrote at (numbers letter (a ∷ b ∷ c ∷ d ∷ [])) (now (out .entry)) (now (out .exit)) r ⌝ }
+{
+    let ns = [a, b, c, d];
+    line(out, at, letter, &ns)
+}
+
+// The bytes of a word.
+pub fn word(out: &mut [u8], start: usize, w: &[u8]) -> usize
+    requires { ⌜ start + length (now w) ≤ length (now out) ⌝ }
+    ensures { λ r. ⌜ Wrote start (now (w .entry)) (now (out .entry)) (now (out .exit)) r ⌝ }
+{
+    let mut at = start;
+    let mut j = 0;
+    while j < w.len() {
+        at = byte(out, at, w[j]);
+        j += 1;
+    }
+    at
+}
+
+// An output row, or `-` for none.
+pub fn out_row(out: &mut [u8], at: usize, row: usize) -> usize
+    requires { ⌜ at + length (outRow row) ≤ length (now out) ⌝ }
+    ensures { λ r. ⌜ Wrote at (outRow row) (now (out .entry)) (now (out .exit)) r ⌝ }
+{
+    if row == 4294967295 {
+        return byte(out, at, 45);
+    }
+    number(out, at, row)
 }
