@@ -3,3 +3,4 @@ pub mod Digits
 pub mod Writing
 pub mod Going
 pub mod Pieces
+pub mod Bounds

@@ -1,4 +1,58 @@
-// The bytes of a printed listing, made from the columns of tables 1 to 4 and the node map.
+// The bytes of a printed listing, made from the columns of tables 1 to 4 and the node map. The columns lent are the rows to print.
 pub mod put;
 pub mod rows;
 pub mod tables;
+
+ghost use mathlib.Core.Path.{_≡_};
+ghost use Prim.Native.Nat.{ℕ, _+_, _*_, _<_, _≤_};
+ghost use lib.ListN.{length};
+ghost use Rattle.meaning.specs.Answer.{put as put-front};
+ghost use Rattle.listing.specs.Listing.{listed, refusedLine, tooLong};
+ghost use Rattle.listing.specs.Written.{room};
+
+// The listing, whole, at the front of out; the number of its bytes.
+pub fn list(
+    len: u32,
+    time: &[u32],
+    birth: &[u32],
+    left: &[u32],
+    right: &[u32],
+    parent: &[u32],
+    child: &[u32],
+    position: &[u32],
+    ancestral: &[u8],
+    site: &[u32],
+    node: &[u32],
+    derived: &[u8],
+    map: &[u32],
+    out: &mut [u8],
+) -> usize
+    requires { ⌜ room (length (now time)) (length (now left)) (length (now position)) (length (now site)) (length (now map)) ≤ length (now out) ⌝ }
+    ensures { λ r. ⌜ (r ≡ length (listed len (record { nodes = record { time = now (time .entry); birth = now (birth .entry) }; edges = record { left = now (left .entry); right = now (right .entry); parent = now (parent .entry); child = now (child .entry) }; sites = record { position = now (position .entry); ancestral = now (ancestral .entry) }; muts = record { site = now (site .entry); node = now (node .entry); derived = now (derived .entry) } }) (now (map .entry)))) × (now (out .exit) ≡ put-front (listed len (record { nodes = record { time = now (time .entry); birth = now (birth .entry) }; edges = record { left = now (left .entry); right = now (right .entry); parent = now (parent .entry); child = now (child .entry) }; sites = record { position = now (position .entry); ancestral = now (ancestral .entry) }; muts = record { site = now (site .entry); node = now (node .entry); derived = now (derived .entry) } }) (now (map .entry))) (now (out .entry))) ⌝ }
+{
+    let a = put::one(out, 0, 81, len as usize);
+    let b = tables::nodes(out, a, time, birth);
+    let c = tables::edges(out, b, left, right, parent, child);
+    let d = tables::sites(out, c, position, ancestral);
+    let e = tables::mutations(out, d, site, node, derived);
+    tables::mapping(out, e, map)
+}
+
+// The line that a refusal prints.
+pub fn refused_line(number: u32, row: u32, out: &mut [u8]) -> usize
+    requires { ⌜ 30 ≤ length (now out) ⌝ }
+    ensures { λ r. ⌜ (r ≡ length (refusedLine number row)) × (now (out .exit) ≡ put-front (refusedLine number row) (now (out .entry))) ⌝ }
+{
+    let a = put::word(out, 0, b"refused");
+    let b = put::field(out, a, number as usize);
+    let c = put::field(out, b, row as usize);
+    put::byte(out, c, 10)
+}
+
+// The line that a longer input prints.
+pub fn too_long(out: &mut [u8]) -> usize
+    requires { ⌜ 9 ≤ length (now out) ⌝ }
+    ensures { λ r. ⌜ (r ≡ length tooLong) × (now (out .exit) ≡ put-front tooLong (now (out .entry))) ⌝ }
+{
+    put::word(out, 0, b"too long\n")
+}

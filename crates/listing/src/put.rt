@@ -59,6 +59,15 @@ pub fn line(out: &mut [u8], at: usize, letter: u8, ns: &[usize]) -> usize
     byte(out, q, 10)
 }
 
+// The same with the numbers one by one.
+pub fn one(out: &mut [u8], at: usize, letter: u8, a: usize) -> usize
+    requires { ⌜ at + length (numbers letter (a ∷ [])) ≤ length (now out) ⌝ }
+    ensures { λ r. ⌜ Wrote at (numbers letter (a ∷ [])) (now (out .entry)) (now (out .exit)) r ⌝ }
+{
+    let ns = [a];
+    line(out, at, letter, &ns)
+}
+
 pub fn two(out: &mut [u8], at: usize, letter: u8, a: usize, b: usize) -> usize
     requires { ⌜ at + length (numbers letter (a ∷ b ∷ [])) ≤ length (now out) ⌝ }
     ensures { λ r. ⌜ Wrote at (numbers letter (a ∷ b ∷ [])) (now (out .entry)) (now (out .exit)) r ⌝ }
