@@ -7,7 +7,7 @@ use native.Mathlib.Omega.{arith}
 use lib.ListN.{length, take, drop, set, length-append, length-drop, take-append-drop}
 use lib.Seq.{set-split, take-at, drop-at, drop-drop, length-take-le}
 use Rattle.meaning.specs.Answer.{put}
-use Rattle.listing.specs.Written.{lay, Wrote}
+use Rattle.listing.specs.Written.{lay, Wrote, Printed}
 
 length-lay : (o : ℕ) (new old : List ℕ) → o + length new ≤ length old → length (lay o new old) ≡ length old
 unfolding lay
@@ -72,8 +72,8 @@ pub room-as : (o : ℕ) {a b : List ℕ} (old : List ℕ) → a ≡ b → o + le
 room-as o old e h = omega (arith, ap length e)
 
 -- bytes written from offset 0 on stand at the front
-pub wrote-front : {r : ℕ} {new old out : List ℕ} → Wrote 0 new old out r → (r ≡ length new) × (out ≡ put new old)
+pub wrote-front : {r : ℕ} {new old out : List ℕ} → Wrote 0 new old out r → Printed new old out r
 unfolding lay put
 wrote-front {r} {new} {old} {out} w =
     let q : 0 + length new ≡ length new = omega arith in
-    (w .next ∙ q, w .cells ∙ ap (λ j. new ++ drop j old) q)
+    record { count = w .next ∙ q; fits = omega (arith, w .next, w .fits); cells = w .cells ∙ ap (λ j. new ++ drop j old) q }

@@ -1,14 +1,12 @@
 // The bytes of a printed listing, made from the columns of tables 1 to 4 and the node map. The columns lent are the rows to print.
-pub mod put;
-pub mod rows;
-pub mod tables;
+mod put;
+mod rows;
+mod tables;
 
-ghost use mathlib.Core.Path.{_≡_};
-ghost use Prim.Native.Nat.{ℕ, _+_, _*_, _<_, _≤_};
+ghost use Prim.Native.Nat.{_+_, _*_, _≤_};
 ghost use lib.ListN.{length};
-ghost use Rattle.meaning.specs.Answer.{put as put-front};
 ghost use Rattle.listing.specs.Listing.{listed, refusedLine, tooLong};
-ghost use Rattle.listing.specs.Written.{room};
+ghost use Rattle.listing.specs.Written.{Printed, room};
 
 // The listing, whole, at the front of out; the number of its bytes.
 pub fn list(
@@ -28,7 +26,7 @@ pub fn list(
     out: &mut [u8],
 ) -> usize
     requires { ⌜ room (length (now time)) (length (now left)) (length (now position)) (length (now site)) (length (now map)) ≤ length (now out) ⌝ }
-    ensures { λ r. ⌜ (r ≡ length (listed len (record { nodes = record { time = now (time .entry); birth = now (birth .entry) }; edges = record { left = now (left .entry); right = now (right .entry); parent = now (parent .entry); child = now (child .entry) }; sites = record { position = now (position .entry); ancestral = now (ancestral .entry) }; muts = record { site = now (site .entry); node = now (node .entry); derived = now (derived .entry) } }) (now (map .entry)))) × (now (out .exit) ≡ put-front (listed len (record { nodes = record { time = now (time .entry); birth = now (birth .entry) }; edges = record { left = now (left .entry); right = now (right .entry); parent = now (parent .entry); child = now (child .entry) }; sites = record { position = now (position .entry); ancestral = now (ancestral .entry) }; muts = record { site = now (site .entry); node = now (node .entry); derived = now (derived .entry) } }) (now (map .entry))) (now (out .entry))) ⌝ }
+    ensures { λ r. ⌜ Printed (listed len (record { nodes = record { time = now (time .entry); birth = now (birth .entry) }; edges = record { left = now (left .entry); right = now (right .entry); parent = now (parent .entry); child = now (child .entry) }; sites = record { position = now (position .entry); ancestral = now (ancestral .entry) }; muts = record { site = now (site .entry); node = now (node .entry); derived = now (derived .entry) } }) (now (map .entry))) (now (out .entry)) (now (out .exit)) r ⌝ }
 {
     let a = put::one(out, 0, 81, len as usize);
     let b = tables::nodes(out, a, time, birth);
@@ -41,7 +39,7 @@ pub fn list(
 // The line that a refusal prints.
 pub fn refused_line(number: u32, row: u32, out: &mut [u8]) -> usize
     requires { ⌜ 30 ≤ length (now out) ⌝ }
-    ensures { λ r. ⌜ (r ≡ length (refusedLine number row)) × (now (out .exit) ≡ put-front (refusedLine number row) (now (out .entry))) ⌝ }
+    ensures { λ r. ⌜ Printed (refusedLine number row) (now (out .entry)) (now (out .exit)) r ⌝ }
 {
     let a = put::word(out, 0, b"refused");
     let b = put::field(out, a, number as usize);
@@ -52,7 +50,7 @@ pub fn refused_line(number: u32, row: u32, out: &mut [u8]) -> usize
 // The line that a longer input prints.
 pub fn too_long(out: &mut [u8]) -> usize
     requires { ⌜ 9 ≤ length (now out) ⌝ }
-    ensures { λ r. ⌜ (r ≡ length tooLong) × (now (out .exit) ≡ put-front tooLong (now (out .entry))) ⌝ }
+    ensures { λ r. ⌜ Printed tooLong (now (out .entry)) (now (out .exit)) r ⌝ }
 {
     put::word(out, 0, b"too long\n")
 }

@@ -84,15 +84,7 @@ pub fn three(out: &mut [u8], at: usize, letter: u8, a: usize, b: usize, c: usize
     line(out, at, letter, &ns)
 }
 
-pub fn four(
-    out: &mut [u8],
-    at: usize,
-    letter: u8,
-    a: usize,
-    b: usize,
-    c: usize,
-    d: usize,
-) -> usize
+pub fn four(out: &mut [u8], at: usize, letter: u8, a: usize, b: usize, c: usize, d: usize) -> usize
     requires { ⌜ at + length (numbers letter (a ∷ b ∷ c ∷ d ∷ [])) ≤ length (now out) ⌝ }
     ensures { λ r. ⌜ Wrote at (numbers letter (a ∷ b ∷ c ∷ d ∷ [])) (now (out .entry)) (now (out .exit)) r ⌝ }
 {

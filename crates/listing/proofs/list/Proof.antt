@@ -32,18 +32,18 @@ tables s = record {
 narrow : (c : tie.After-one-arg) → Narrow (tables (c .before .before .before .before .before .before .before .before .before .before .before .before .before .before)) (c .before .before .before .before .before .before .before .before .before .before .before .before .before .before .args .map .now)
 narrow c =
     record {
-    time = λ i. omega (arith, c .before .before .before .before .before .before .before .before .before .before .before .before .before .shared-slice-known .given i);
-    birth = λ i. omega (arith, c .before .before .before .before .before .before .before .before .before .before .before .before .shared-slice-known2 .given i);
-    left = λ i. omega (arith, c .before .before .before .before .before .before .before .before .before .before .before .shared-slice-known3 .given i);
-    right = λ i. omega (arith, c .before .before .before .before .before .before .before .before .before .before .shared-slice-known4 .given i);
-    parent = λ i. omega (arith, c .before .before .before .before .before .before .before .before .before .shared-slice-known5 .given i);
-    child = λ i. omega (arith, c .before .before .before .before .before .before .before .before .shared-slice-known6 .given i);
-    position = λ i. omega (arith, c .before .before .before .before .before .before .before .shared-slice-known7 .given i);
-    ancestral = λ i. omega (arith, c .before .before .before .before .before .before .shared-slice-known8 .given i);
-    site = λ i. omega (arith, c .before .before .before .before .before .shared-slice-known9 .given i);
-    node = λ i. omega (arith, c .before .before .before .before .shared-slice-known10 .given i);
-    derived = λ i. omega (arith, c .before .before .before .shared-slice-known11 .given i);
-    row = λ i. omega (arith, c .before .before .shared-slice-known12 .given i);
+      time = λ i. omega (arith, c .before .before .before .before .before .before .before .before .before .before .before .before .before .shared-slice-known .given i);
+      birth = λ i. omega (arith, c .before .before .before .before .before .before .before .before .before .before .before .before .shared-slice-known2 .given i);
+      left = λ i. omega (arith, c .before .before .before .before .before .before .before .before .before .before .before .shared-slice-known3 .given i);
+      right = λ i. omega (arith, c .before .before .before .before .before .before .before .before .before .before .shared-slice-known4 .given i);
+      parent = λ i. omega (arith, c .before .before .before .before .before .before .before .before .before .shared-slice-known5 .given i);
+      child = λ i. omega (arith, c .before .before .before .before .before .before .before .before .shared-slice-known6 .given i);
+      position = λ i. omega (arith, c .before .before .before .before .before .before .before .shared-slice-known7 .given i);
+      ancestral = λ i. omega (arith, c .before .before .before .before .before .before .shared-slice-known8 .given i);
+      site = λ i. omega (arith, c .before .before .before .before .before .shared-slice-known9 .given i);
+      node = λ i. omega (arith, c .before .before .before .before .shared-slice-known10 .given i);
+      derived = λ i. omega (arith, c .before .before .before .shared-slice-known11 .given i);
+      row = λ i. omega (arith, c .before .before .shared-slice-known12 .given i);
     }
 
 -- the room that is left for the lines to come
