@@ -1,0 +1,94 @@
+// The line of one row of each table. A cell past the end of a column counts as 0.
+use crate::put;
+ghost use mathlib.Core.Path.{_≡_};
+ghost use mathlib.Core.List.{List, [], _∷_};
+ghost use Prim.Native.Nat.{ℕ, _+_, _<_, _≤_};
+ghost use lib.ListN.{length};
+ghost use Rattle.meaning.specs.Words.{at as cellOf};
+ghost use Rattle.listing.specs.Listing.{nodeLine, edgeLine, siteLine, mutationLine, mapLine};
+ghost use Rattle.listing.specs.Written.{Wrote};
+
+fn cell(column: &[u32], i: usize) -> usize
+    ensures { λ r. ⌜ r ≡ cellOf (now (column .entry)) i ⌝ }
+{
+    if i < column.len() {
+        return column[i] as usize;
+    }
+    0
+}
+
+fn state(column: &[u8], i: usize) -> usize
+    ensures { λ r. ⌜ r ≡ cellOf (now (column .entry)) i ⌝ }
+{
+    if i < column.len() {
+        return column[i] as usize;
+    }
+    0
+}
+
+pub fn node(out: &mut [u8], at: usize, time: &[u32], birth: &[u32], i: usize) -> usize
+    requires { ⌜ at + length (nodeLine (record { time = now time; birth = now birth }) i) ≤ length (now out) ⌝ }
+    ensures { λ r. ⌜ Wrote at (nodeLine (record { time = now (time .entry); birth = now (birth .entry) }) i) (now (out .entry)) (now (out .exit)) r ⌝ }
+{
+    let t = cell(time, i);
+    let b = cell(birth, i);
+    put::three(out, at, 78, i, t, b)
+}
+
+pub fn edge(
+    out: &mut [u8],
+    at: usize,
+    left: &[u32],
+    right: &[u32],
+    parent: &[u32],
+    child: &[u32],
+    i: usize,
+) -> usize
+    requires { ⌜ at + length (edgeLine (record { left = now left; right = now right; parent = now parent; child = now child }) i) ≤ length (now out) ⌝ }
+    ensures { λ r. ⌜ Wrote at (edgeLine (record { left = now (left .entry); right = now (right .entry); parent = now (parent .entry); child = now (child .entry) }) i) (now (out .entry)) (now (out .exit)) r ⌝ }
+{
+    let a = cell(left, i);
+    let b = cell(right, i);
+    let p = cell(parent, i);
+    let c = cell(child, i);
+    put::four(out, at, 69, a, b, p, c)
+}
+
+pub fn site(out: &mut [u8], at: usize, position: &[u32], ancestral: &[u8], i: usize) -> usize
+    requires { ⌜ at + length (siteLine (record { position = now position; ancestral = now ancestral }) i) ≤ length (now out) ⌝ }
+    ensures { λ r. ⌜ Wrote at (siteLine (record { position = now (position .entry); ancestral = now (ancestral .entry) }) i) (now (out .entry)) (now (out .exit)) r ⌝ }
+{
+    let x = cell(position, i);
+    let s = state(ancestral, i);
+    put::two(out, at, 83, x, s)
+}
+
+pub fn mutation(
+    out: &mut [u8],
+    at: usize,
+    site: &[u32],
+    node: &[u32],
+    derived: &[u8],
+    i: usize,
+) -> usize
+    requires { ⌜ at + length (mutationLine (record { site = now site; node = now node; derived = now derived }) i) ≤ length (now out) ⌝ }
+    ensures { λ r. ⌜ Wrote at (mutationLine (record { site = now (site .entry); node = now (node .entry); derived = now (derived .entry) }) i) (now (out .entry)) (now (out .exit)) r ⌝ }
+{
+    let j = cell(site, i);
+    let u = cell(node, i);
+    let s = state(derived, i);
+    put::three(out, at, 77, j, u, s)
+}
+
+// A row of the node map: its letter and number, and its output row.
+pub fn mapped(out: &mut [u8], at: usize, map: &[u32], i: usize) -> usize
+    requires { ⌜ at + length (mapLine (now map) i) ≤ length (now out) ⌝ }
+    ensures { λ r. ⌜ Wrote at (mapLine (now (map .entry)) i) (now (out .entry)) (now (out .exit)) r ⌝ }
+{
+    let row = cell(map, i);
+    let p = put::byte(out, at, 88);
+    let q = put::field(out, p, i);
+    let s = put::byte(out, q, 32);
+    let t = put::out_row(out, s, row);
+    put::byte(out, t, 10)
+}
