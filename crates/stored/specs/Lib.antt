@@ -1,0 +1,3 @@
+-- 01's stored form: what the bytes mean, the calls, and that nothing is lost on the way.
+pub mod Stored
+pub mod Calls
