@@ -1,3 +1,6 @@
 -- 01's stored form: what the bytes mean, the calls, and that nothing is lost on the way.
 pub mod Stored
 pub mod Calls
+pub mod Numbers
+pub mod Marks
+pub mod Records
