@@ -4,3 +4,4 @@ pub mod Calls
 pub mod Numbers
 pub mod Marks
 pub mod Records
+pub mod Kinds
