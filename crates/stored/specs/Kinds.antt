@@ -7,32 +7,17 @@ use native.Mathlib.Nat.{zero-mul}
 use native.Mathlib.Omega.{arith}
 use borrow.Author.Tests.{ltb-true, ltb-false, le-ltb}
 use lib.Dec.{eqb, leb, ltb}
-use lib.ListN.{length, take, drop, take-append-drop, length-drop}
+use lib.ListN.{length, take, drop, take-append-drop, length-drop, length-append}
 use lib.Seq.{drop-at, drop-drop, drop-length}
 use Rattle.meaning.specs.Words.{and, at}
 use Rattle.meaning.specs.Answer.{Answer, refuse, accepted}
 use Rattle.laws.specs.Bools.{clash, and-of, not-of, not-no}
 use Rattle.laws.specs.Counting.{length-rows}
 use Rattle.stored.specs.Stored.{Kind, Form, number, bytesOf, isMark, size, rowsAt, after, kindThen, endThen, kindsThen, formThen, columns, tablesFrom, recordAt, recordsFrom, height, kindsBytes, formBytes}
+use Rattle.stored.specs.Refusals.{refuse-no, passed}
 use Rattle.stored.specs.Numbers.{Bytes, length-bytes, number-written, bytes-read}
 use Rattle.stored.specs.Marks.{Marked, marked, marked-front, front-there, front-mark, other-mark, whole-marked, whole-is}
 use Rattle.stored.specs.Records.{Fit, records-read, records-written, stand-written, read-columns}
-
--- ---- refusals
-
-pub refuse-no : {t : Bool} (n r : ℕ) (rest : Answer) → t ≡ false → refuse t n r rest ≡ rest
-unfolding refuse
-refuse-no n r rest e = rw (e, refuse)
-
-pub refuse-yes : {t : Bool} (n r : ℕ) (rest : Answer) → t ≡ true → refuse t n r rest ≡ record { number = n; row = r }
-unfolding refuse
-refuse-yes n r rest e = rw (e, refuse)
-
--- what is accepted was not refused
-pub passed : (t : Bool) (n r : ℕ) (rest : Answer) → eqb n 0 ≡ false → accepted (refuse t n r rest) ≡ true → (t ≡ false) × (accepted rest ≡ true)
-unfolding refuse accepted
-passed true n r rest z h = absurd (clash h z)
-passed false n r rest z h = (refl, h)
 
 -- ---- kinds that can be told apart
 
@@ -157,3 +142,48 @@ kinds-written s o rest p (cons {k = k} {ks = ks} {cs = cs} {X = X} f l g) e =
     let q : after k s o ≡ o + height cs * size k = ends k ks cs X s o v f l g e in
     let ih : _ = kinds-written s (o + height cs * size k) rest (v .later) g (later-written k ks cs X s o v f l g e) in
     (kind-skipped k ks cs X s o v f l g e (kindsThen ks s (after k s o) rest) ∙ ap (λ j. kindsThen ks s j rest) q ∙ ih .0, ap₂ (λ (x : List (List ℕ)) (y : List (List (List ℕ))). x ∷ y) (kind-columns k ks cs X s o v f l g e) (ap (tablesFrom ks s) q ∙ ih .1))
+
+-- ---- the whole file
+
+-- what stands after the first record's mark, and after L
+first-drop : (f : Form) (L : ℕ) (X : List (List (List ℕ))) → drop 6 (formBytes f L X) ≡ kindsBytes (f .kinds) X
+unfolding formBytes
+first-drop f L X = drop-at (bytesOf 4 L) (kindsBytes (f .kinds) X) 4 (length-bytes 4 L)
+
+first-long : (f : Form) (L : ℕ) (X : List (List (List ℕ))) → 6 ≤ length (formBytes f L X)
+unfolding formBytes
+first-long f L X = omega (arith, length-append (bytesOf 4 L) (kindsBytes (f .kinds) X), length-bytes 4 L)
+
+module _ (f : Form) (L : ℕ) (X : List (List (List ℕ))) (p : proper (f .kinds) ≡ true) (l : L < 256 ^ 4) (g : Fitting (f .kinds) X) where
+  -- what was written is accepted
+  pub form-accepted : (rest : Answer) → formThen f (formBytes f L X) rest ≡ rest
+  unfolding formThen formBytes
+  form-accepted rest =
+      let h : 6 ≤ length (formBytes f L X) = first-long f L X in
+      refuse-no 32 0 _ (le-ltb (length (formBytes f L X)) 2 (omega arith))
+      ∙ refuse-no 31 0 _ (ap not (front-mark (formBytes f L X) 0 refl))
+      ∙ refuse-no 32 0 _ (le-ltb (length (formBytes f L X)) 6 h)
+      ∙ kinds-written (formBytes f L X) 6 rest p g (first-drop f L X) .0
+
+  -- with its L
+  pub form-len : number 4 (formBytes f L X) 2 ≡ L
+  unfolding formBytes
+  form-len = number-written 4 L (kindsBytes (f .kinds) X) 2 (formBytes f L X) l refl
+
+  -- and its tables
+  pub form-tables : tablesFrom (f .kinds) (formBytes f L X) 6 ≡ X
+  form-tables = kinds-written (formBytes f L X) 6 (record { number = 0; row = 0 }) p g (first-drop f L X) .1
+
+-- what was accepted is written back byte for byte
+pub form-read : (f : Form) (s : List ℕ) (rest : Answer) → proper (f .kinds) ≡ true → Bytes s → accepted (formThen f s rest) ≡ true → formBytes f (number 4 s 2) (tablesFrom (f .kinds) s 6) ≡ s
+unfolding formThen formBytes
+form-read f s rest p b h =
+    let m : Bool = isMark (f .first) (f .second) s 0 in
+    let p1 : _ = passed (ltb (length s) 2) 32 0 (refuse (not m) 31 0 (refuse (ltb (length s) 6) 32 0 (kindsThen (f .kinds) s 6 rest))) refl h in
+    let p2 : _ = passed (not m) 31 0 (refuse (ltb (length s) 6) 32 0 (kindsThen (f .kinds) s 6 rest)) refl (p1 .1) in
+    let p3 : _ = passed (ltb (length s) 6) 32 0 (kindsThen (f .kinds) s 6 rest) refl (p2 .1) in
+    let l : 6 ≤ length s = ltb-false (length s) 6 (p3 .0) in
+    let e : drop 0 s ≡ f .first ∷ f .second ∷ drop (0 + 2) s = marked-front (f .first) (f .second) s 0 (marked (f .first) (f .second) s 0 (not-no m (p2 .0))) in
+    let t : bytesOf 4 (number 4 s 2) ≡ take 4 (drop 2 s) = bytes-read 4 s 2 b l in
+    let k : kindsBytes (f .kinds) (tablesFrom (f .kinds) s 6) ≡ drop 4 (drop 2 s) = kinds-read (f .kinds) s 6 rest p b (p3 .1) ∙ sym (drop-drop 4 2 s) in
+    ap (λ r. f .first ∷ f .second ∷ r) (ap₂ (λ (x y : List ℕ). x ++ y) t k ∙ take-append-drop 4 (drop 2 s)) ∙ sym e
