@@ -9,7 +9,7 @@ use Rattle.meaning.specs.Rows.{Tables}
 use Rattle.meaning.specs.Answer.{Answer, Limits, done, refuse, refuseRow, accepted, lacks, left-by}
 use Rattle.meaning.specs.Lent.{Counts, fitThen, countsBy, cellsBy}
 use Rattle.meaning.specs.Check.{shapes, sizes, tooMany}
-use Rattle.stored.specs.Stored.{number, form, formThen, formBytes, tablesFrom}
+use Rattle.stored.specs.Stored.{SA, ND, ED, SI, number, form, after, formThen, formBytes, tablesFrom}
 
 -- ---- tables 1 to 5 and the kinds' columns, in the order of the file
 
@@ -42,6 +42,19 @@ unfoldable pub found : ℕ → Limits → List ℕ → List (List (List ℕ))
 unfolding form tablesFrom
 found w m s = tablesFrom (form w m .kinds) s 6
 
+-- where each kind after SA starts
+abbrev pub nodesFrom : Limits → List ℕ → ℕ
+nodesFrom m s = after (SA m) s 6
+
+abbrev pub edgesFrom : Limits → List ℕ → ℕ
+edgesFrom m s = after (ND m) s (nodesFrom m s)
+
+abbrev pub sitesFrom : ℕ → Limits → List ℕ → ℕ
+sitesFrom w m s = after (ED w m) s (edgesFrom m s)
+
+abbrev pub mutsFrom : ℕ → Limits → List ℕ → ℕ
+mutsFrom w m s = after (SI m) s (sitesFrom w m s)
+
 -- ---- reading
 
 -- "for a read L"; "after a refusal all but number and row are 0"
@@ -58,29 +71,30 @@ unfoldable pub ifDone : Answer → ℕ → ℕ
 unfolding accepted
 ifDone a n = elim (accepted a) [ true ↦ n | false ↦ 0 ]
 
--- 31 to 34 as met; "Last comes 13", with the samples as table 5
-unfoldable pub readAnswer : ℕ → Limits → List ℕ → Tables → List ℕ → Answer
-unfolding form formThen found tablesIn samplesIn fitThen refuse lacks
-readAnswer w m s out listOut =
-    formThen (form w m) s
-    (fitThen m (tablesIn (found w m s)) out
-    (refuse (lacks (m .samples) (listOut ∷ []) (length (samplesIn (found w m s)))) 13 5 done))
+-- what an answer leaves: L, the tables T and the samples S at the front of the lent columns, or nothing
+unfoldable pub handed : Answer → ℕ → Tables → List ℕ → Tables → List ℕ → Reading
+unfolding ifDone countsBy cellsBy left-by
+handed a L T S out listOut = record {
+  answer = a;
+  len = ifDone a L;
+  rows = countsBy a T;
+  listed = ifDone a (length S);
+  cells = cellsBy a T out;
+  samples = left-by a S listOut;
+}
 
--- the file s is read into lent columns, where a row field has w bytes
+-- "Last comes 13", with the samples as table 5
+unfoldable pub roomAnswer : Limits → Tables → List ℕ → Tables → List ℕ → Answer
+unfolding fitThen refuse lacks
+roomAnswer m T S out listOut = fitThen m T out (refuse (lacks (m .samples) (listOut ∷ []) (length S)) 13 5 done)
+
+-- the file s is read into lent columns, where a row field has w bytes: 31 to 34 as met, then 13
 unfoldable pub reading : ℕ → Limits → List ℕ → Tables → List ℕ → Reading
-unfolding readAnswer found tablesIn samplesIn number ifDone countsBy cellsBy left-by
+unfolding handed form formThen roomAnswer found tablesIn samplesIn number
 reading w m s out listOut =
-    let a : Answer = readAnswer w m s out listOut in
     let T : Tables = tablesIn (found w m s) in
     let S : List ℕ = samplesIn (found w m s) in
-    record {
-      answer = a;
-      len = ifDone a (number 4 s 2);
-      rows = countsBy a T;
-      listed = ifDone a (length S);
-      cells = cellsBy a T out;
-      samples = left-by a S listOut;
-    }
+    handed (formThen (form w m) s (roomAnswer m T S out listOut)) (number 4 s 2) T S out listOut
 
 -- ---- writing
 
@@ -98,21 +112,20 @@ unfolding form formBytes filed
 written w m L T S = formBytes (form w m) L (filed S T)
 
 -- "Writing answers 1, 2, then 35 .., 36 .., then 13", with the bytes as table 7
-unfoldable pub writeAnswer : ℕ → Limits → ℕ → Tables → List ℕ → List ℕ → Answer
+unfoldable pub writeAnswer : ℕ → Limits → ℕ → Tables → List ℕ → ℕ → Answer
 unfolding shapes sizes refuse refuseRow tooWide written
-writeAnswer w m L T S out =
+writeAnswer w m L T S room =
     shapes T (sizes m T (tooMany 5 (m .samples) S
     (refuseRow 35 (tooWide w (T .edges .parent) (T .edges .child)) (length (T .edges .left))
     (refuseRow 36 (tooWide w (T .muts .site) (T .muts .node)) (length (T .muts .site))
-    (refuse (ltb (length out) (length (written w m L T S))) 13 7 done)))))
+    (refuse (ltb room (length (written w m L T S))) 13 7 done)))))
 
--- L, tables and samples are written into lent bytes
+-- what an answer leaves: the bytes at the front of the lent ones, or nothing
+unfoldable pub laid : Answer → List ℕ → List ℕ → Writing
+unfolding ifDone left-by
+laid a new out = record { answer = a; bytes = ifDone a (length new); cells = left-by a new out }
+
+-- L, tables and samples are written into lent bytes, where a row field has w bytes
 unfoldable pub writing : ℕ → Limits → ℕ → Tables → List ℕ → List ℕ → Writing
-unfolding writeAnswer written ifDone left-by
-writing w m L T S out =
-    let a : Answer = writeAnswer w m L T S out in
-    record {
-      answer = a;
-      bytes = ifDone a (length (written w m L T S));
-      cells = left-by a (written w m L T S) out;
-    }
+unfolding laid writeAnswer written
+writing w m L T S out = laid (writeAnswer w m L T S (length out)) (written w m L T S) out

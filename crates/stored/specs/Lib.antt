@@ -6,3 +6,5 @@ pub mod Numbers
 pub mod Marks
 pub mod Records
 pub mod Kinds
+pub mod Admitted
+pub mod RoundTrip

@@ -63,7 +63,7 @@ module _ (k : Kind) (s : List ℕ) (o n : ℕ) (b : Bytes s) (f : Stand k s o n)
 -- n rows, each cell within the bytes of its field
 pub data Fit : List ℕ → List (List ℕ) → ℕ → Type 0 where
   nil : {n : ℕ} → Fit [] [] n
-  cons : {w : ℕ} {ws : List ℕ} {c : List ℕ} {cs : List (List ℕ)} {n : ℕ} → length c ≡ n → ((i : ℕ) → at c i < 256 ^ w) → Fit ws cs n → Fit (w ∷ ws) (c ∷ cs) n
+  cons : {w : ℕ} {ws : List ℕ} {c : List ℕ} {cs : List (List ℕ)} {n : ℕ} → length c ≡ n → ((i : ℕ) → i < n → at c i < 256 ^ w) → Fit ws cs n → Fit (w ∷ ws) (c ∷ cs) n
 
 pub length-fields : {ws : List ℕ} {cs : List (List ℕ)} {n : ℕ} (i : ℕ) → Fit ws cs n → length (fieldsAt ws cs i) ≡ total ws
 unfolding fieldsAt total
@@ -80,7 +80,7 @@ unfolding columns fieldsAt
 columns-written s o z t nil h = refl
 columns-written s o z t (cons {w = w} {ws = ws} {c = c} {cs = cs} {n = n} e l f) h =
     ap₂ (λ (x : List ℕ) (y : List (List ℕ)). x ∷ y)
-    (rows-same (λ i. number w s (o + i * z)) (at c) n (λ i k. number-written w (at c i) (fieldsAt ws cs i ++ t i) (o + i * z) s (l i) (split i k)) ∙ ap (rows (at c)) (sym e) ∙ rows-at c)
+    (rows-same (λ i. number w s (o + i * z)) (at c) n (λ i k. number-written w (at c i) (fieldsAt ws cs i ++ t i) (o + i * z) s (l i k) (split i k)) ∙ ap (rows (at c)) (sym e) ∙ rows-at c)
     (columns-written s (o + w) z t f (λ i k. let q : o + w + i * z ≡ o + i * z + w = omega arith in ap (λ j. drop j s) q ∙ sym (drop-drop w (o + i * z) s) ∙ ap (drop w) (split i k) ∙ drop-at (bytesOf w (at c i)) (fieldsAt ws cs i ++ t i) w (length-bytes w (at c i))))
   where
     split : (i : ℕ) → i < n → drop (o + i * z) s ≡ bytesOf w (at c i) ++ (fieldsAt ws cs i ++ t i)

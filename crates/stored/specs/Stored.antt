@@ -47,15 +47,24 @@ pub record Form : Type 0 where
   pub second : ℕ
   pub kinds : List Kind
 
--- SA, ND, ED, SI and MU, where a row field has w bytes
+-- SA (birth), ND (time, birth), ED (left, right, parent, child), SI (position, state) and MU (site, node, state), where a row field has w bytes
+abbrev pub SA : Limits → Kind
+SA m = record { first = 83; second = 65; widths = 4 ∷ []; most = m .samples }
+
+abbrev pub ND : Limits → Kind
+ND m = record { first = 78; second = 68; widths = 4 ∷ 4 ∷ []; most = m .nodes }
+
+abbrev pub ED : ℕ → Limits → Kind
+ED w m = record { first = 69; second = 68; widths = 4 ∷ 4 ∷ w ∷ w ∷ []; most = m .edges }
+
+abbrev pub SI : Limits → Kind
+SI m = record { first = 83; second = 73; widths = 4 ∷ 1 ∷ []; most = m .sites }
+
+abbrev pub MU : ℕ → Limits → Kind
+MU w m = record { first = 77; second = 85; widths = w ∷ w ∷ 1 ∷ []; most = m .mutations }
+
 unfoldable pub kinds : ℕ → Limits → List Kind
-kinds w m =
-    record { first = 83; second = 65; widths = 4 ∷ []; most = m .samples }
-    ∷ record { first = 78; second = 68; widths = 4 ∷ 4 ∷ []; most = m .nodes }
-    ∷ record { first = 69; second = 68; widths = 4 ∷ 4 ∷ w ∷ w ∷ []; most = m .edges }
-    ∷ record { first = 83; second = 73; widths = 4 ∷ 1 ∷ []; most = m .sites }
-    ∷ record { first = 77; second = 85; widths = w ∷ w ∷ 1 ∷ []; most = m .mutations }
-    ∷ []
+kinds w m = SA m ∷ ND m ∷ ED w m ∷ SI m ∷ MU w m ∷ []
 
 -- the form that opens with SQ
 unfoldable pub form : ℕ → Limits → Form
