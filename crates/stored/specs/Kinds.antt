@@ -13,7 +13,7 @@ use Rattle.meaning.specs.Words.{and, at}
 use Rattle.meaning.specs.Answer.{Answer, refuse, accepted}
 use Rattle.laws.specs.Bools.{clash, and-of, not-of, not-no}
 use Rattle.laws.specs.Counting.{length-rows}
-use Rattle.stored.specs.Stored.{Kind, Form, number, bytesOf, isMark, size, rowsAt, after, kindThen, endThen, kindsThen, formThen, columns, tablesFrom, recordAt, recordsFrom, height, kindsBytes, formBytes}
+use Rattle.stored.specs.Stored.{Kind, Form, number, bytesOf, isMark, size, rowsAt, after, stopThen, kindThen, endThen, kindsThen, formThen, columns, tablesFrom, recordAt, recordsFrom, height, kindsBytes, formBytes}
 use Rattle.stored.specs.Refusals.{refuse-no, passed}
 use Rattle.stored.specs.Numbers.{Bytes, length-bytes, number-written, bytes-read}
 use Rattle.stored.specs.Marks.{Marked, marked, marked-front, front-there, front-mark, other-mark, whole-marked, whole-is}
@@ -62,7 +62,7 @@ end-read s o rest h =
 
 -- what is accepted has no further mark of the kind, and goes on
 kind-passed : (k : Kind) (s : List ℕ) (o : ℕ) (rest : Answer) → accepted (kindThen k s o rest) ≡ true → accepted rest ≡ true
-unfolding kindThen
+unfolding kindThen stopThen
 kind-passed k s o rest h =
     let m : Bool = isMark (k .first) (k .second) s (after k s o) in
     passed m 32 (after k s o) rest refl (passed (and m (leb (k .most) (rowsAt k s o))) 34 (after k s o) (refuse m 32 (after k s o) rest) refl h .1) .1
@@ -128,7 +128,7 @@ module _ (k : Kind) (ks : List Kind) (cs : List (List ℕ)) (X : List (List (Lis
   ends = ap (λ n. o + n * size k) counted
 
   kind-skipped : (r : Answer) → kindThen k s o r ≡ r
-  unfolding kindThen
+  unfolding kindThen stopThen
   kind-skipped r = let u : isMark (k .first) (k .second) s (after k s o) ≡ false = rw ends unmarked in refuse-no {t = and (isMark (k .first) (k .second) s (after k s o)) (leb (k .most) (rowsAt k s o))} 34 _ _ (rw u) ∙ refuse-no 32 _ _ u
 
   kind-columns : columns (k .widths) s (o + 2) (size k) (rowsAt k s o) ≡ cs

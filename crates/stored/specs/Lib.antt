@@ -1,6 +1,7 @@
 -- 01's stored form: what the bytes mean, the calls, and that nothing is lost on the way.
 pub mod Stored
 pub mod Calls
+pub mod Posts
 pub mod Refusals
 pub mod Numbers
 pub mod Marks

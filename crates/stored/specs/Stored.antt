@@ -89,12 +89,16 @@ unfoldable pub after : Kind → List ℕ → ℕ → ℕ
 unfolding rowsAt size
 after k s o = o + rowsAt k s o * size k
 
--- where the mark stands once more: 34 "one row more than the limit", else 32 "bytes run out"
+-- n records with the mark a b end at offset o. Where the mark stands once more: 34 "one row more than the limit", else 32 "bytes run out"
+unfoldable pub stopThen : ℕ → ℕ → ℕ → ℕ → List ℕ → ℕ → Answer → Answer
+unfolding isMark refuse
+stopThen a b most n s o rest =
+    refuse (and (isMark a b s o) (leb most n)) 34 o
+    (refuse (isMark a b s o) 32 o rest)
+
 unfoldable pub kindThen : Kind → List ℕ → ℕ → Answer → Answer
-unfolding isMark rowsAt after refuse
-kindThen k s o rest =
-    refuse (and (isMark (k .first) (k .second) s (after k s o)) (leb (k .most) (rowsAt k s o))) 34 (after k s o)
-    (refuse (isMark (k .first) (k .second) s (after k s o)) 32 (after k s o) rest)
+unfolding rowsAt after stopThen
+kindThen k s o rest = stopThen (k .first) (k .second) (k .most) (rowsAt k s o) s (after k s o) rest
 
 -- "then EN": 32 "bytes run out", 31 "mark unknown or not allowed here", 33 "bytes follow EN"
 unfoldable pub endThen : List ℕ → ℕ → Answer → Answer

@@ -1,9 +1,30 @@
 // Reading and writing 01's stored form. What the bytes mean is in specs/.
-ghost use mathlib.Core.Path.{_≡_};
+mod walk; // walk.rt: where the rows of each kind stand, or why not
 
-// A mark has two bytes.
-pub fn mark_bytes() -> usize
-    ensures { λ r. ⌜ r ≡ 2 ⌝ }
-{
-    2
+// The rows of one kind: where its records start, how many there are, and where they end.
+pub struct Stretch {
+    pub start: usize,
+    pub count: usize,
+    pub end: usize,
+}
+
+// What reading one kind finds.
+pub enum Step {
+    Ends(Stretch),
+    Refused(meaning::Refusal),
+}
+
+// The rows of every kind.
+pub struct Layout {
+    pub samples: Stretch,
+    pub nodes: Stretch,
+    pub edges: Stretch,
+    pub sites: Stretch,
+    pub mutations: Stretch,
+}
+
+// What reading all kinds finds.
+pub enum Scan {
+    Found(Layout),
+    Refused(meaning::Refusal),
 }

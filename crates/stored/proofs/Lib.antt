@@ -1,0 +1,2 @@
+-- Laws for the proofs of the code, over plain lists and numbers.
+pub mod Walking
