@@ -15,6 +15,7 @@ use Rattle.stored.specs.Stored.{isMark, whole, stopThen, endThen}
 use Rattle.stored.specs.Refusals.{refuse-no, refuse-yes}
 use Rattle.stored.specs.Marks.{Marked, marked, whole-more, whole-unmarked, whole-cut, whole-none, whole-within}
 use Rattle.stored.specs.Posts.{Stretched}
+use Rattle.stored.specs.declared.Stretch.{Stretch}
 
 -- ---- a mark
 
@@ -101,3 +102,18 @@ module _ (s : List ℕ) (o : ℕ) (h : o ≤ length s) (rest : Answer) where
   pub end-clean : 2 ≤ length s - o → length s - o ≤ 2 → isMark 69 78 s o ≡ true → endThen s o rest ≡ rest
   unfolding endThen
   end-clean l k m = refuse-no 32 o _ (le-ltb (length s) (o + 2) (omega arith)) ∙ refuse-no 31 o _ (ap not m) ∙ refuse-no 33 (o + 2) rest (le-ltb (o + 2) (length s) (omega arith))
+
+-- ---- a kind, by the stretch that was found
+
+module _ (a b z most : ℕ) (s : List ℕ) (o : ℕ) (w : Stretch) (f : Stretched a b z most s o w) where
+  pub ends-within : o ≤ length s → w .end ≤ length s
+  ends-within h = omega (arith, f .ends, whole-within a b z s most o h)
+
+  pub kind-ends : isMark a b s (w .end) ≡ false → (rest : Answer) → stopThen a b most (whole a b z s most o) s (o + whole a b z s most o * z) rest ≡ rest
+  kind-ends m rest = stop-none a b most (whole a b z s most o) s (o + whole a b z s most o * z) rest (rw (f .ends) at m)
+
+  pub kind-over : isMark a b s (w .end) ≡ true → most ≤ w .count → (rest : Answer) → stopThen a b most (whole a b z s most o) s (o + whole a b z s most o * z) rest ≡ answer 34 (w .end)
+  kind-over m l rest = stop-over a b most (whole a b z s most o) s (o + whole a b z s most o * z) rest (rw (f .ends) at m) (omega (arith, f .counts)) ∙ ap (answer 34) (sym (f .ends))
+
+  pub kind-cut : isMark a b s (w .end) ≡ true → w .count < most → (rest : Answer) → stopThen a b most (whole a b z s most o) s (o + whole a b z s most o * z) rest ≡ answer 32 (w .end)
+  kind-cut m l rest = stop-cut a b most (whole a b z s most o) s (o + whole a b z s most o * z) rest (rw (f .ends) at m) (omega (arith, f .counts)) ∙ ap (answer 32) (sym (f .ends))
