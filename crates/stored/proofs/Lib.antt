@@ -1,2 +1,3 @@
 -- Laws for the proofs of the code, over plain lists and numbers.
 pub mod Walking
+pub mod Chaining

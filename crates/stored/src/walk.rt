@@ -9,7 +9,12 @@ use crate::Layout;
 use crate::Scan;
 use crate::Step;
 use crate::Stretch;
+use meaning::EdgeTable;
+use meaning::MutationTable;
+use meaning::NodeTable;
 use meaning::Refusal;
+use meaning::SampleTable;
+use meaning::SiteTable;
 
 // Whether the mark a b stands at an offset.
 pub fn is_mark(s: &[u8], at: usize, a: u8, b: u8) -> bool
@@ -77,4 +82,51 @@ pub fn end(s: &[u8], at: usize) -> Step
         return Step::Refused(Refusal::BytesFollow(at + 2));
     }
     Step::Ends(Stretch { start: at, count: 0, end: at })
+}
+
+// All kinds in their order, and the end of the file.
+pub fn kinds(s: &[u8]) -> Scan
+    requires { ⌜ 6 ≤ length (now s) ⌝ }
+    ensures { λ r. ⌜ KindsScanned (now (s .entry)) r ⌝ }
+{
+    let samples = match kind(s, 6, 83, 65, 6, SampleTable::MOST) {
+        Step::Ends(w) => w,
+        Step::Refused(x) => return Scan::Refused(x),
+    };
+    let nodes = match kind(s, samples.end, 78, 68, 10, NodeTable::MOST) {
+        Step::Ends(w) => w,
+        Step::Refused(x) => return Scan::Refused(x),
+    };
+    let edges = match kind(s, nodes.end, 69, 68, 14, EdgeTable::MOST) {
+        Step::Ends(w) => w,
+        Step::Refused(x) => return Scan::Refused(x),
+    };
+    let sites = match kind(s, edges.end, 83, 73, 7, SiteTable::MOST) {
+        Step::Ends(w) => w,
+        Step::Refused(x) => return Scan::Refused(x),
+    };
+    let mutations = match kind(s, sites.end, 77, 85, 7, MutationTable::MOST) {
+        Step::Ends(w) => w,
+        Step::Refused(x) => return Scan::Refused(x),
+    };
+    match end(s, mutations.end) {
+        Step::Ends(_) => Scan::Found(Layout { samples, nodes, edges, sites, mutations }),
+        Step::Refused(x) => Scan::Refused(x),
+    }
+}
+
+// The whole file: where its rows stand, or the refusal.
+pub fn scan(s: &[u8]) -> Scan
+    ensures { λ r. ⌜ Scanned (now (s .entry)) r ⌝ }
+{
+    if s.len() < 2 {
+        return Scan::Refused(Refusal::BytesEnd(0));
+    }
+    if !is_mark(s, 0, 83, 81) {
+        return Scan::Refused(Refusal::MarkWrong(0));
+    }
+    if s.len() < 6 {
+        return Scan::Refused(Refusal::BytesEnd(0));
+    }
+    kinds(s)
 }
