@@ -47,3 +47,16 @@ KindsScanned s (scan.Refused x) = (rest : Answer) → kindsThen (kinds 2 limits)
 unfoldable pub EndScanned : List ℕ → ℕ → Step → Type 0
 EndScanned s o (step.Ends w) = (rest : Answer) → endThen s o rest ≡ rest
 EndScanned s o (step.Refused x) = (rest : Answer) → endThen s o rest ≡ refusalOf x
+
+-- ---- what filling asks
+
+-- n fields of w bytes stand at offset o and each next one z bytes further on
+pub record Fields (w : ℕ) (s : List ℕ) (o z n : ℕ) : Type 0 where
+  pub near : o ≤ length s + 256
+  pub short : z ≤ 256
+  pub there : (i : ℕ) → i < n → o + i * z + w ≤ length s
+
+-- n records of z bytes stand at offset o
+pub record Records (z : ℕ) (s : List ℕ) (o n : ℕ) : Type 0 where
+  pub begins : o ≤ length s
+  pub there : (i : ℕ) → i < n → o + i * z + z ≤ length s

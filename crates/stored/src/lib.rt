@@ -1,4 +1,5 @@
 // Reading and writing 01's stored form. What the bytes mean is in specs/.
+mod fill; // fill.rt: columns filled from the records
 mod walk; // walk.rt: where the rows of each kind stand, or why not
 
 // The rows of one kind: where its records start, how many there are, and where they end.
