@@ -1,3 +1,6 @@
+-- `stored::fill::edges` meets its contract: each column from its field. Assumes nothing.
+use Prim.Native.Nat.{_+_}
+use Rattle.stored.proofs.Filling.{fields-of}
 use native.Mathlib.Omega.{arith}
 use borrow.Author.Needs.{needs}
 use Rattle.stored.proofs.fill.edges.Statement.{statement}
@@ -20,16 +23,16 @@ add-d : tie.Need-add-d
 add-d c = search needs
 
 fill32-requires : tie.Need-fill32-requires
-fill32-requires c κs = search needs
+fill32-requires c κs = (fields-of 4 2 14 (c .before .before .before .before .before .before .args .s .now) (c .before .before .before .before .before .before .args .start) (c .before .before .before .before .before .before .args .start + 2) (c .before .before .before .before .before .before .args .n) (omega arith) (omega arith) (omega arith) (c .before .before .before .before .before .before .pre .0), c .before .before .before .before .before .before .pre .1)
 
 fill32-requires-2 : tie.Need-fill32-requires-2
-fill32-requires-2 c κs = search needs
+fill32-requires-2 c κs = (fields-of 4 6 14 (c .before .before .before .before .before .before .before .before .before .before .args .s .now) (c .before .before .before .before .before .before .before .before .before .before .args .start) (c .before .before .before .before .before .before .before .before .before .before .args .start + 2 + 4) (c .before .before .before .before .before .before .before .before .before .before .args .n) (omega arith) (omega arith) (omega arith) (c .before .before .before .before .before .before .before .before .before .before .pre .0), c .before .before .before .before .before .before .before .before .before .before .pre .2)
 
 fill16-requires : tie.Need-fill16-requires
-fill16-requires c κs = search needs
+fill16-requires c κs = (fields-of 2 10 14 (c .before .before .before .before .before .before .before .before .before .before .before .before .before .before .args .s .now) (c .before .before .before .before .before .before .before .before .before .before .before .before .before .before .args .start) (c .before .before .before .before .before .before .before .before .before .before .before .before .before .before .args .start + 2 + 4 + 4) (c .before .before .before .before .before .before .before .before .before .before .before .before .before .before .args .n) (omega arith) (omega arith) (omega arith) (c .before .before .before .before .before .before .before .before .before .before .before .before .before .before .pre .0), c .before .before .before .before .before .before .before .before .before .before .before .before .before .before .pre .3)
 
 fill16-requires-2 : tie.Need-fill16-requires-2
-fill16-requires-2 c κs = search needs
+fill16-requires-2 c κs = (fields-of 2 12 14 (c .before .before .before .before .before .before .before .before .before .before .before .before .before .before .before .before .before .before .args .s .now) (c .before .before .before .before .before .before .before .before .before .before .before .before .before .before .before .before .before .before .args .start) (c .before .before .before .before .before .before .before .before .before .before .before .before .before .before .before .before .before .before .args .start + 2 + 4 + 4 + 2) (c .before .before .before .before .before .before .before .before .before .before .before .before .before .before .before .before .before .before .args .n) (omega arith) (omega arith) (omega arith) (c .before .before .before .before .before .before .before .before .before .before .before .before .before .before .before .before .before .before .pre .0), c .before .before .before .before .before .before .before .before .before .before .before .before .before .before .before .before .before .before .pre .4)
 
 same-length : tie.Need-same-length
 same-length c = search needs

@@ -1,3 +1,6 @@
+-- `stored::fill::mutations` meets its contract: each column from its field. Assumes nothing.
+use Prim.Native.Nat.{_+_}
+use Rattle.stored.proofs.Filling.{fields-of}
 use native.Mathlib.Omega.{arith}
 use borrow.Author.Needs.{needs}
 use Rattle.stored.proofs.fill.mutations.Statement.{statement}
@@ -17,13 +20,13 @@ add-c : tie.Need-add-c
 add-c c = search needs
 
 fill16-requires : tie.Need-fill16-requires
-fill16-requires c κs = search needs
+fill16-requires c κs = (fields-of 2 2 7 (c .before .before .before .before .before .args .s .now) (c .before .before .before .before .before .args .start) (c .before .before .before .before .before .args .start + 2) (c .before .before .before .before .before .args .n) (omega arith) (omega arith) (omega arith) (c .before .before .before .before .before .pre .0), c .before .before .before .before .before .pre .1)
 
 fill16-requires-2 : tie.Need-fill16-requires-2
-fill16-requires-2 c κs = search needs
+fill16-requires-2 c κs = (fields-of 2 4 7 (c .before .before .before .before .before .before .before .before .before .args .s .now) (c .before .before .before .before .before .before .before .before .before .args .start) (c .before .before .before .before .before .before .before .before .before .args .start + 2 + 2) (c .before .before .before .before .before .before .before .before .before .args .n) (omega arith) (omega arith) (omega arith) (c .before .before .before .before .before .before .before .before .before .pre .0), c .before .before .before .before .before .before .before .before .before .pre .2)
 
 fill8-requires : tie.Need-fill8-requires
-fill8-requires c κs = search needs
+fill8-requires c κs = (fields-of 1 6 7 (c .before .before .before .before .before .before .before .before .before .before .before .before .before .args .s .now) (c .before .before .before .before .before .before .before .before .before .before .before .before .before .args .start) (c .before .before .before .before .before .before .before .before .before .before .before .before .before .args .start + 2 + 2 + 2) (c .before .before .before .before .before .before .before .before .before .before .before .before .before .args .n) (omega arith) (omega arith) (omega arith) (c .before .before .before .before .before .before .before .before .before .before .before .before .before .pre .0), c .before .before .before .before .before .before .before .before .before .before .before .before .before .pre .3)
 
 same-length : tie.Need-same-length
 same-length c = search needs

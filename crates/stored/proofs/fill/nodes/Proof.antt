@@ -1,3 +1,6 @@
+-- `stored::fill::nodes` meets its contract: each column from its field. Assumes nothing.
+use Prim.Native.Nat.{_+_}
+use Rattle.stored.proofs.Filling.{fields-of}
 use native.Mathlib.Omega.{arith}
 use borrow.Author.Needs.{needs}
 use Rattle.stored.proofs.fill.nodes.Statement.{statement}
@@ -13,10 +16,10 @@ add-b : tie.Need-add-b
 add-b c = search needs
 
 fill32-requires : tie.Need-fill32-requires
-fill32-requires c κs = search needs
+fill32-requires c κs = (fields-of 4 2 10 (c .before .before .before .before .args .s .now) (c .before .before .before .before .args .start) (c .before .before .before .before .args .start + 2) (c .before .before .before .before .args .n) (omega arith) (omega arith) (omega arith) (c .before .before .before .before .pre .0), c .before .before .before .before .pre .1)
 
 fill32-requires-2 : tie.Need-fill32-requires-2
-fill32-requires-2 c κs = search needs
+fill32-requires-2 c κs = (fields-of 4 6 10 (c .before .before .before .before .before .before .before .before .args .s .now) (c .before .before .before .before .before .before .before .before .args .start) (c .before .before .before .before .before .before .before .before .args .start + 2 + 4) (c .before .before .before .before .before .before .before .before .args .n) (omega arith) (omega arith) (omega arith) (c .before .before .before .before .before .before .before .before .pre .0), c .before .before .before .before .before .before .before .before .pre .2)
 
 same-length : tie.Need-same-length
 same-length c = search needs
