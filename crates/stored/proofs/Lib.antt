@@ -2,3 +2,5 @@
 pub mod Walking
 pub mod Chaining
 pub mod Filling
+pub mod Rooming
+pub mod Returning

@@ -8,4 +8,5 @@ pub mod Marks
 pub mod Records
 pub mod Kinds
 pub mod Admitted
+pub mod Answers
 pub mod RoundTrip

@@ -118,7 +118,7 @@ module _ (w : ℕ) (m : Limits) (s : List ℕ) where
     muts = kind-shape (MU w m) w (w ∷ 1 ∷ []) s (mutsFrom w m s);
   }
 
-  found-within : Within m (tablesIn (found w m s)) (samplesIn (found w m s))
+  pub found-within : Within m (tablesIn (found w m s)) (samplesIn (found w m s))
   unfolding tablesIn samplesIn found form kinds tablesFrom columns
   found-within = record {
     nodes = rows-within (ND m) _ s (nodesFrom m s);

@@ -71,6 +71,15 @@ pub fn fill8(s: &[u8], start: usize, step: usize, n: usize, out: &mut [u8])
     }
 }
 
+// The samples, from n records that start at an offset.
+pub fn samples(s: &[u8], start: usize, n: usize, birth: &mut [u32])
+    requires { ⌜ Records 6 (now s) start n × (n ≤ length (now birth)) ⌝ }
+    ensures { λ _. ⌜ now (birth .exit) ≡ put (rows (λ i. number 4 (now (s .entry)) (start + 2 + i * 6)) n) (now (birth .entry)) ⌝ }
+{
+    let a = start + 2;
+    fill32(s, a, 6, n, birth);
+}
+
 // The nodes' columns, from n records that start at an offset.
 pub fn nodes(s: &[u8], start: usize, n: usize, time: &mut [u32], birth: &mut [u32])
     requires { ⌜ Records 10 (now s) start n × (n ≤ length (now time)) × (n ≤ length (now birth)) ⌝ }

@@ -1,0 +1,63 @@
+-- The code's answers as outcomes of the two calls, and what the test of room promises.
+use mathlib.Core.Path.{_≡_}
+use mathlib.Core.List.{List, [], _∷_}
+use Prim.Native.Nat.{ℕ, _<_, _≤_}
+use lib.ListN.{length}
+use Rattle.meaning.specs.Rows.{Tables}
+use Rattle.meaning.specs.Answer.{Answer, answer, done, limits, refusalOf, room}
+use Rattle.stored.specs.Calls.{Reading, roomAnswer}
+use Rattle.stored.specs.Admitted.{Within}
+use Rattle.stored.specs.declared.Rows.{Rows}
+use Rattle.stored.specs.declared.Room.{Room}
+use Rattle.stored.specs.declared.Room.the-variants.{Enough, Lacks}
+use Rattle.stored.specs.declared.ReadAnswer.{ReadAnswer}
+use Rattle.stored.specs.declared.ReadAnswer.the-variants as read
+
+-- what reading answers, and what the lent cells hold
+abbrev pub readOf : ReadAnswer → Tables → List ℕ → Reading
+readOf (read.Done L n) cells samples = record {
+  answer = done;
+  len = L;
+  rows = record { nodes = n .nodes; edges = n .edges; sites = n .sites; mutations = n .mutations };
+  listed = n .samples;
+  cells = cells;
+  samples = samples;
+}
+readOf (read.Refused x) cells samples = record {
+  answer = refusalOf x;
+  len = 0;
+  rows = record { nodes = 0; edges = 0; sites = 0; mutations = 0 };
+  listed = 0;
+  cells = cells;
+  samples = samples;
+}
+
+-- ---- room
+
+-- n is how many rows the tables and the samples have
+pub record Counted (n : Rows) (T : Tables) (S : List ℕ) : Type 0 where
+  pub nodes : length (T .nodes .time) ≡ n .nodes
+  pub edges : length (T .edges .left) ≡ n .edges
+  pub sites : length (T .sites .position) ≡ n .sites
+  pub muts : length (T .muts .site) ≡ n .mutations
+  pub samples : length S ≡ n .samples
+
+-- r is how many rows there is room for: the shortest column of each table
+pub record Roomed (r : Rows) (out : Tables) (listOut : List ℕ) : Type 0 where
+  pub nodes : room (out .nodes .time ∷ out .nodes .birth ∷ []) ≡ r .nodes
+  pub edges : room (out .edges .left ∷ out .edges .right ∷ out .edges .parent ∷ out .edges .child ∷ []) ≡ r .edges
+  pub sites : room (out .sites .position ∷ out .sites .ancestral ∷ []) ≡ r .sites
+  pub muts : room (out .muts .site ∷ out .muts .node ∷ out .muts .derived ∷ []) ≡ r .mutations
+  pub samples : room (listOut ∷ []) ≡ r .samples
+
+-- every table has room
+pub record Ample (n r : Rows) : Type 0 where
+  pub nodes : n .nodes ≤ r .nodes
+  pub edges : n .edges ≤ r .edges
+  pub sites : n .sites ≤ r .sites
+  pub muts : n .mutations ≤ r .mutations
+  pub samples : n .samples ≤ r .samples
+
+unfoldable pub Lacking : Rows → Rows → Room → Type 0
+Lacking n r Enough = Ample n r
+Lacking n r (Lacks t) = (T out : Tables) (S listOut : List ℕ) → Counted n T S → Within limits T S → Roomed r out listOut → roomAnswer limits T S out listOut ≡ answer 13 t
