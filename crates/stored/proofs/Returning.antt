@@ -23,12 +23,12 @@ use Rattle.stored.specs.declared.Stretch.{Stretch}
 use Rattle.stored.specs.declared.Layout.{Layout}
 use Rattle.stored.specs.declared.Scan.{Scan}
 use Rattle.stored.specs.declared.Scan.the-variants as scan
-use Rattle.stored.specs.declared.Room.{Room}
-use Rattle.stored.specs.declared.Room.the-variants.{Enough, Lacks}
+use Rattle.stored.specs.declared.Fault.{Fault}
+use Rattle.stored.specs.declared.Fault.the-variants as fault
 use Rattle.stored.specs.declared.Rows.{Rows}
 use Rattle.stored.specs.declared.ReadAnswer.{ReadAnswer}
 use Rattle.stored.specs.declared.ReadAnswer.the-variants as read
-use Rattle.stored.proofs.Rooming.{none-lacks, room-one, room-two, room-three, room-four}
+use Rattle.stored.proofs.Rooming.{room-lacks, none-lacks, room-one, room-two, room-three, room-four}
 
 -- a refusal is not done
 pub refusal-not-done : (x : Refusal) → accepted (refusalOf x) ≡ false
@@ -174,12 +174,12 @@ handed-over s l out listOut T S L f t q =
       samples = samples i;
     }
 
-module _ (s : List ℕ) (l : Layout) (f : Whole s l) (n r : Rows) (e : n ≡ rows-of l) (out : Tables) (listOut : List ℕ) (q : Roomed r out listOut) (x : Room) (g : Lacking n r x) where
-  ample : x ≡ Enough → Ample (rows-of l) r
+module _ (s : List ℕ) (l : Layout) (f : Whole s l) (n r : Rows) (e : n ≡ rows-of l) (out : Tables) (listOut : List ℕ) (q : Roomed r out listOut) (x : Fault) (g : Lacking n r x) where
+  ample : x ≡ fault.Nothing → Ample (rows-of l) r
   unfolding Lacking
   ample h = subst (λ m. Ample m r) e (subst (Lacking n r) h g)
 
-  pub ready : x ≡ Enough → Ready s l out listOut
+  pub ready : x ≡ fault.Nothing → Ready s l out listOut
   ready h =
       let a : Ample (rows-of l) r = ample h in
       let o1 : nodesFrom limits s ≤ length s = after-within (SA limits) s 6 (f .first) in
@@ -199,16 +199,16 @@ module _ (s : List ℕ) (l : Layout) (f : Whole s l) (n r : Rows) (e : n ≡ row
       }
 
   -- a file that doesn't fit
-  pub read-lacks : (t : ℕ) → x ≡ Lacks t → readOf (read.Refused (NoRoom t)) out listOut ≡ reading 2 limits s out listOut
+  pub read-lacks : (t : ℕ) → x ≡ fault.Table t → readOf (read.Refused (NoRoom t)) out listOut ≡ reading 2 limits s out listOut
   unfolding Lacking
   read-lacks t h =
       let T : Tables = tablesIn (found 2 limits s) in
       let S : List ℕ = samplesIn (found 2 limits s) in
       let c : Counted n T S = subst (λ m. Counted m T S) (sym e) (found-counted s l (f .rows)) in
-      by-answer s out listOut (NoRoom t) (f .passes (roomAnswer limits T S out listOut) ∙ subst (Lacking n r) h g T out S listOut c (found-within 2 limits s) q)
+      by-answer s out listOut (NoRoom t) (f .passes (roomAnswer limits T S out listOut) ∙ room-lacks n r T out S listOut c (found-within 2 limits s) q t (subst (Lacking n r) h g))
 
   -- a file that is read
-  pub read-done : x ≡ Enough → (T : Tables) (S : List ℕ) (L : ℕ) → Took s l out listOut T S → L ≡ number 4 s 2 → readOf (read.Done L n) T S ≡ reading 2 limits s out listOut
+  pub read-done : x ≡ fault.Nothing → (T : Tables) (S : List ℕ) (L : ℕ) → Took s l out listOut T S → L ≡ number 4 s 2 → readOf (read.Done L n) T S ≡ reading 2 limits s out listOut
   unfolding reading
   read-done h T S L t k =
       let T' : Tables = tablesIn (found 2 limits s) in

@@ -14,7 +14,7 @@ use Rattle.meaning.specs.Lent.{fitThen}
 use Rattle.stored.specs.Calls.{roomAnswer}
 use Rattle.stored.specs.Refusals.{refuse-no, refuse-yes}
 use Rattle.stored.specs.Admitted.{Within}
-use Rattle.stored.specs.Answers.{Counted, Roomed, Ample}
+use Rattle.stored.specs.Answers.{Counted, Roomed, Ample, Lowest, at-nodes, at-edges, at-sites, at-muts, at-samples}
 use Rattle.stored.specs.declared.Rows.{Rows}
 
 lacks-no : (most : ℕ) (cols : List (List ℕ)) (need : ℕ) → need ≤ most → need ≤ room cols → lacks most cols need ≡ false
@@ -38,25 +38,33 @@ module _ (n r : Rows) (T out : Tables) (S listOut : List ℕ) (c : Counted n T S
   muts-no : n .mutations ≤ r .mutations → lacks 1024 (out .muts .site ∷ out .muts .node ∷ out .muts .derived ∷ []) (length (T .muts .site)) ≡ false
   muts-no h = lacks-no 1024 (out .muts .site ∷ out .muts .node ∷ out .muts .derived ∷ []) (length (T .muts .site)) (w .muts) (omega (arith, c .muts, q .muts))
 
-  pub nodes-lack : r .nodes < n .nodes → roomAnswer limits T S out listOut ≡ answer 13 1
+  nodes-lack : r .nodes < n .nodes → roomAnswer limits T S out listOut ≡ answer 13 1
   unfolding roomAnswer fitThen
   nodes-lack h = refuse-yes 13 1 _ (lacks-yes 1024 (out .nodes .time ∷ out .nodes .birth ∷ []) (length (T .nodes .time)) (w .nodes) (omega (arith, c .nodes, q .nodes)))
 
-  pub edges-lack : n .nodes ≤ r .nodes → r .edges < n .edges → roomAnswer limits T S out listOut ≡ answer 13 2
+  edges-lack : n .nodes ≤ r .nodes → r .edges < n .edges → roomAnswer limits T S out listOut ≡ answer 13 2
   unfolding roomAnswer fitThen
   edges-lack a h = refuse-no 13 1 _ (nodes-no a) ∙ refuse-yes 13 2 _ (lacks-yes 4096 (out .edges .left ∷ out .edges .right ∷ out .edges .parent ∷ out .edges .child ∷ []) (length (T .edges .left)) (w .edges) (omega (arith, c .edges, q .edges)))
 
-  pub sites-lack : n .nodes ≤ r .nodes → n .edges ≤ r .edges → r .sites < n .sites → roomAnswer limits T S out listOut ≡ answer 13 3
+  sites-lack : n .nodes ≤ r .nodes → n .edges ≤ r .edges → r .sites < n .sites → roomAnswer limits T S out listOut ≡ answer 13 3
   unfolding roomAnswer fitThen
   sites-lack a b h = refuse-no 13 1 _ (nodes-no a) ∙ refuse-no 13 2 _ (edges-no b) ∙ refuse-yes 13 3 _ (lacks-yes 512 (out .sites .position ∷ out .sites .ancestral ∷ []) (length (T .sites .position)) (w .sites) (omega (arith, c .sites, q .sites)))
 
-  pub muts-lack : n .nodes ≤ r .nodes → n .edges ≤ r .edges → n .sites ≤ r .sites → r .mutations < n .mutations → roomAnswer limits T S out listOut ≡ answer 13 4
+  muts-lack : n .nodes ≤ r .nodes → n .edges ≤ r .edges → n .sites ≤ r .sites → r .mutations < n .mutations → roomAnswer limits T S out listOut ≡ answer 13 4
   unfolding roomAnswer fitThen
   muts-lack a b d h = refuse-no 13 1 _ (nodes-no a) ∙ refuse-no 13 2 _ (edges-no b) ∙ refuse-no 13 3 _ (sites-no d) ∙ refuse-yes 13 4 _ (lacks-yes 1024 (out .muts .site ∷ out .muts .node ∷ out .muts .derived ∷ []) (length (T .muts .site)) (w .muts) (omega (arith, c .muts, q .muts)))
 
-  pub samples-lack : n .nodes ≤ r .nodes → n .edges ≤ r .edges → n .sites ≤ r .sites → n .mutations ≤ r .mutations → r .samples < n .samples → roomAnswer limits T S out listOut ≡ answer 13 5
+  samples-lack : n .nodes ≤ r .nodes → n .edges ≤ r .edges → n .sites ≤ r .sites → n .mutations ≤ r .mutations → r .samples < n .samples → roomAnswer limits T S out listOut ≡ answer 13 5
   unfolding roomAnswer fitThen
   samples-lack a b d e h = refuse-no 13 1 _ (nodes-no a) ∙ refuse-no 13 2 _ (edges-no b) ∙ refuse-no 13 3 _ (sites-no d) ∙ refuse-no 13 4 _ (muts-no e) ∙ refuse-yes 13 5 done (lacks-yes 256 (listOut ∷ []) (length S) (w .samples) (omega (arith, c .samples, q .samples)))
+
+  -- 13 with the lowest table that lacks room
+  pub room-lacks : (t : ℕ) → Lowest n r t → roomAnswer limits T S out listOut ≡ answer 13 t
+  room-lacks t (at-nodes h) = nodes-lack h
+  room-lacks t (at-edges a h) = edges-lack a h
+  room-lacks t (at-sites a b h) = sites-lack a b h
+  room-lacks t (at-muts a b d h) = muts-lack a b d h
+  room-lacks t (at-samples a b d e h) = samples-lack a b d e h
 
   pub none-lacks : Ample n r → roomAnswer limits T S out listOut ≡ done
   unfolding roomAnswer fitThen

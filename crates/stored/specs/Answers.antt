@@ -4,12 +4,11 @@ use mathlib.Core.List.{List, [], _∷_}
 use Prim.Native.Nat.{ℕ, _<_, _≤_}
 use lib.ListN.{length}
 use Rattle.meaning.specs.Rows.{Tables}
-use Rattle.meaning.specs.Answer.{Answer, answer, done, limits, refusalOf, room}
-use Rattle.stored.specs.Calls.{Reading, roomAnswer}
-use Rattle.stored.specs.Admitted.{Within}
+use Rattle.meaning.specs.Answer.{done, refusalOf, room}
+use Rattle.stored.specs.Calls.{Reading}
 use Rattle.stored.specs.declared.Rows.{Rows}
-use Rattle.stored.specs.declared.Room.{Room}
-use Rattle.stored.specs.declared.Room.the-variants.{Enough, Lacks}
+use Rattle.stored.specs.declared.Fault.{Fault}
+use Rattle.stored.specs.declared.Fault.the-variants as fault
 use Rattle.stored.specs.declared.ReadAnswer.{ReadAnswer}
 use Rattle.stored.specs.declared.ReadAnswer.the-variants as read
 
@@ -58,6 +57,14 @@ pub record Ample (n r : Rows) : Type 0 where
   pub muts : n .mutations ≤ r .mutations
   pub samples : n .samples ≤ r .samples
 
-unfoldable pub Lacking : Rows → Rows → Room → Type 0
-Lacking n r Enough = Ample n r
-Lacking n r (Lacks t) = (T out : Tables) (S listOut : List ℕ) → Counted n T S → Within limits T S → Roomed r out listOut → roomAnswer limits T S out listOut ≡ answer 13 t
+-- table t is the lowest that lacks room
+pub data Lowest (n r : Rows) : ℕ → Type 0 where
+  at-nodes : r .nodes < n .nodes → Lowest n r 1
+  at-edges : n .nodes ≤ r .nodes → r .edges < n .edges → Lowest n r 2
+  at-sites : n .nodes ≤ r .nodes → n .edges ≤ r .edges → r .sites < n .sites → Lowest n r 3
+  at-muts : n .nodes ≤ r .nodes → n .edges ≤ r .edges → n .sites ≤ r .sites → r .mutations < n .mutations → Lowest n r 4
+  at-samples : n .nodes ≤ r .nodes → n .edges ≤ r .edges → n .sites ≤ r .sites → n .mutations ≤ r .mutations → r .samples < n .samples → Lowest n r 5
+
+unfoldable pub Lacking : Rows → Rows → Fault → Type 0
+Lacking n r fault.Nothing = Ample n r
+Lacking n r (fault.Table t) = Lowest n r t

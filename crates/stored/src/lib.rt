@@ -45,10 +45,10 @@ pub struct Rows {
     pub samples: usize,
 }
 
-// Whether there is room; if not, the lowest table that lacks it.
-pub enum Room {
-    Enough,
-    Lacks(usize),
+// A test of the tables by their numbers: nothing, or the lowest table at fault.
+pub enum Fault {
+    Nothing,
+    Table(usize),
 }
 
 // The answer of reading.
@@ -88,8 +88,8 @@ pub fn read(
     };
     let rows = measure::found_rows(found);
     match measure::lacking(rows, lent) {
-        Room::Lacks(t) => ReadAnswer::Refused(meaning::Refusal::NoRoom(t)),
-        Room::Enough => {
+        Fault::Table(t) => ReadAnswer::Refused(meaning::Refusal::NoRoom(t)),
+        Fault::Nothing => {
             let len = fill::get32(bytes, 2);
             let nodes_at = found.nodes;
             let edges_at = found.edges;

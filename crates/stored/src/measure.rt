@@ -3,8 +3,8 @@ ghost use mathlib.Core.Path.{_≡_};
 ghost use Prim.Native.Nat.{min};
 ghost use Rattle.stored.specs.Answers.{Ample, Lacking};
 
+use crate::Fault;
 use crate::Layout;
-use crate::Room;
 use crate::Rows;
 use meaning::EdgeTable;
 use meaning::MutationTable;
@@ -49,23 +49,23 @@ pub fn found_rows(l: Layout) -> Rows
 }
 
 // The lowest table that lacks room.
-pub fn lacking(need: Rows, lent: Rows) -> Room
+pub fn lacking(need: Rows, lent: Rows) -> Fault
     ensures { λ r. ⌜ Lacking need lent r ⌝ }
 {
     if lent.nodes < need.nodes {
-        return Room::Lacks(NodeTable::NUMBER);
+        return Fault::Table(NodeTable::NUMBER);
     }
     if lent.edges < need.edges {
-        return Room::Lacks(EdgeTable::NUMBER);
+        return Fault::Table(EdgeTable::NUMBER);
     }
     if lent.sites < need.sites {
-        return Room::Lacks(SiteTable::NUMBER);
+        return Fault::Table(SiteTable::NUMBER);
     }
     if lent.mutations < need.mutations {
-        return Room::Lacks(MutationTable::NUMBER);
+        return Fault::Table(MutationTable::NUMBER);
     }
     if lent.samples < need.samples {
-        return Room::Lacks(SampleTable::NUMBER);
+        return Fault::Table(SampleTable::NUMBER);
     }
-    Room::Enough
+    Fault::Nothing
 }

@@ -1,6 +1,5 @@
 -- `stored::measure::lacking` meets its contract: the tables are tested by their numbers. Assumes nothing.
-use Rattle.stored.specs.Answers.{Lacking}
-use Rattle.stored.proofs.Rooming.{nodes-lack, edges-lack, sites-lack, muts-lack, samples-lack}
+use Rattle.stored.specs.Answers.{Lacking, at-nodes, at-edges, at-sites, at-muts, at-samples}
 use native.Mathlib.Omega.{arith}
 use borrow.Author.Needs.{needs}
 use Rattle.stored.proofs.measure.lacking.Statement.{statement}
@@ -10,23 +9,23 @@ use Rattle.stored.proofs.measure.lacking.Lts as lts
 
 returns : tie.Need-returns
 unfolding Lacking
-returns c = λ T out S listOut d w q. nodes-lack (c .before .before .before .args .need) (c .before .before .before .args .lent) T out S listOut d w q (c .if1 .taken)
+returns c = at-nodes (c .if1 .taken)
 
 returns-2 : tie.Need-returns-2
 unfolding Lacking
-returns-2 c = λ T out S listOut d w q. edges-lack (c .before .before .before .before .before .before .args .need) (c .before .before .before .before .before .before .args .lent) T out S listOut d w q (c .before .before .before .if1 .left) (c .if2 .taken)
+returns-2 c = at-edges (c .before .before .before .if1 .left) (c .if2 .taken)
 
 returns-3 : tie.Need-returns-3
 unfolding Lacking
-returns-3 c = λ T out S listOut d w q. sites-lack (c .before .before .before .before .before .before .before .before .before .args .need) (c .before .before .before .before .before .before .before .before .before .args .lent) T out S listOut d w q (c .before .before .before .before .before .before .if1 .left) (c .before .before .before .if2 .left) (c .if3 .taken)
+returns-3 c = at-sites (c .before .before .before .before .before .before .if1 .left) (c .before .before .before .if2 .left) (c .if3 .taken)
 
 returns-4 : tie.Need-returns-4
 unfolding Lacking
-returns-4 c = λ T out S listOut d w q. muts-lack (c .before .before .before .before .before .before .before .before .before .before .before .before .args .need) (c .before .before .before .before .before .before .before .before .before .before .before .before .args .lent) T out S listOut d w q (c .before .before .before .before .before .before .before .before .before .if1 .left) (c .before .before .before .before .before .before .if2 .left) (c .before .before .before .if3 .left) (c .if4 .taken)
+returns-4 c = at-muts (c .before .before .before .before .before .before .before .before .before .if1 .left) (c .before .before .before .before .before .before .if2 .left) (c .before .before .before .if3 .left) (c .if4 .taken)
 
 returns-5 : tie.Need-returns-5
 unfolding Lacking
-returns-5 c = λ T out S listOut d w q. samples-lack (c .before .before .before .before .before .before .before .before .before .before .before .before .before .before .before .args .need) (c .before .before .before .before .before .before .before .before .before .before .before .before .before .before .before .args .lent) T out S listOut d w q (c .before .before .before .before .before .before .before .before .before .before .before .before .if1 .left) (c .before .before .before .before .before .before .before .before .before .if2 .left) (c .before .before .before .before .before .before .if3 .left) (c .before .before .before .if4 .left) (c .if5 .taken)
+returns-5 c = at-samples (c .before .before .before .before .before .before .before .before .before .before .before .before .if1 .left) (c .before .before .before .before .before .before .before .before .before .if2 .left) (c .before .before .before .before .before .before .if3 .left) (c .before .before .before .if4 .left) (c .if5 .taken)
 
 returns-6 : tie.Need-returns-6
 unfolding Lacking
