@@ -4,3 +4,4 @@ pub mod Chaining
 pub mod Filling
 pub mod Rooming
 pub mod Returning
+pub mod Laying

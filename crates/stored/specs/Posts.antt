@@ -60,3 +60,9 @@ pub record Fields (w : ℕ) (s : List ℕ) (o z n : ℕ) : Type 0 where
 pub record Records (z : ℕ) (s : List ℕ) (o n : ℕ) : Type 0 where
   pub begins : o ≤ length s
   pub there : (i : ℕ) → i < n → o + i * z + z ≤ length s
+
+-- ---- what writing leaves
+
+-- the bytes new stand at offset o, and all else is as it was
+unfoldable pub lay : ℕ → List ℕ → List ℕ → List ℕ
+lay o new old = take o old ++ (new ++ drop (o + length new) old)

@@ -65,14 +65,22 @@ pub data Fit : List ℕ → List (List ℕ) → ℕ → Type 0 where
   nil : {n : ℕ} → Fit [] [] n
   cons : {w : ℕ} {ws : List ℕ} {c : List ℕ} {cs : List (List ℕ)} {n : ℕ} → length c ≡ n → ((i : ℕ) → i < n → at c i < 256 ^ w) → Fit ws cs n → Fit (w ∷ ws) (c ∷ cs) n
 
-pub length-fields : {ws : List ℕ} {cs : List (List ℕ)} {n : ℕ} (i : ℕ) → Fit ws cs n → length (fieldsAt ws cs i) ≡ total ws
+pub length-fields : (ws : List ℕ) (cs : List (List ℕ)) (i : ℕ) → length cs ≡ length ws → length (fieldsAt ws cs i) ≡ total ws
 unfolding fieldsAt total
-length-fields i nil = refl
-length-fields i (cons {w = w} {ws = ws} {c = c} {cs = cs} e l f) = length-append (bytesOf w (at c i)) (fieldsAt ws cs i) ∙ ap₂ (λ (x y : ℕ). x + y) (length-bytes w (at c i)) (length-fields i f)
+length-fields [] cs i e = refl
+length-fields (w ∷ ws) [] i e = absurd (omega arith)
+length-fields (w ∷ ws) (c ∷ cs) i e =
+    let h : length cs ≡ length ws = omega arith in
+    length-append (bytesOf w (at c i)) (fieldsAt ws cs i) ∙ ap₂ (λ (x y : ℕ). x + y) (length-bytes w (at c i)) (length-fields ws cs i h)
 
-pub length-record : (k : Kind) {cs : List (List ℕ)} {n : ℕ} (i : ℕ) → Fit (k .widths) cs n → length (recordAt k cs i) ≡ size k
+pub length-record : (k : Kind) (cs : List (List ℕ)) (i : ℕ) → length cs ≡ length (k .widths) → length (recordAt k cs i) ≡ size k
 unfolding recordAt size
-length-record k i f = omega (arith, length-fields i f)
+length-record k cs i e = omega (arith, length-fields (k .widths) cs i e)
+
+-- a column for each field
+pub fit-columns : {ws : List ℕ} {cs : List (List ℕ)} {n : ℕ} → Fit ws cs n → length cs ≡ length ws
+fit-columns nil = refl
+fit-columns (cons e l f) = ap suc (fit-columns f)
 
 -- the columns read are the columns whose fields stand there
 pub columns-written : {ws : List ℕ} {cs : List (List ℕ)} {n : ℕ} (s : List ℕ) (o z : ℕ) (t : ℕ → List ℕ) → Fit ws cs n → ((i : ℕ) → i < n → drop (o + i * z) s ≡ fieldsAt ws cs i ++ t i) → columns ws s o z n ≡ cs
@@ -99,7 +107,7 @@ module _ (k : Kind) (s : List ℕ) (o n : ℕ) (cs : List (List ℕ)) (t : List 
       ap (λ j. drop j s) q
       ∙ sym (drop-drop (size k) (o + i * size k) s)
       ∙ ap (drop (size k)) (records-written i (suc d) (omega arith) ∙ append-assoc (recordAt k cs i) (recordsFrom k cs (suc i) d) t)
-      ∙ drop-at (recordAt k cs i) (recordsFrom k cs (suc i) d ++ t) (size k) (length-record k i f)
+      ∙ drop-at (recordAt k cs i) (recordsFrom k cs (suc i) d ++ t) (size k) (length-record k cs i (fit-columns f))
 
   -- the record of row i and what is left after it
   row-written : (i : ℕ) → i < n → drop (o + i * size k) s ≡ recordAt k cs i ++ (recordsFrom k cs (suc i) (n - suc i) ++ t)
@@ -111,7 +119,7 @@ module _ (k : Kind) (s : List ℕ) (o n : ℕ) (cs : List (List ℕ)) (t : List 
   unfolding recordAt
   stand-written i h =
       let r : _ = row-written i h in
-      (front-mark s (o + i * size k) r, omega (arith, length-drop (o + i * size k) s, ap length r, length-append (recordAt k cs i) (recordsFrom k cs (suc i) (n - suc i) ++ t), length-record k i f))
+      (front-mark s (o + i * size k) r, omega (arith, length-drop (o + i * size k) s, ap length r, length-append (recordAt k cs i) (recordsFrom k cs (suc i) (n - suc i) ++ t), length-record k cs i (fit-columns f)))
 
   -- and their columns are read
   pub read-columns : columns (k .widths) s (o + 2) (size k) n ≡ cs

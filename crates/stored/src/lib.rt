@@ -5,6 +5,7 @@ ghost use Rattle.stored.specs.Calls.{reading};
 ghost use Rattle.stored.specs.Answers.{readOf};
 
 mod fill; // fill.rt: columns filled from the records
+mod lay; // lay.rt: records laid into lent bytes
 mod measure; // measure.rt: whether what was found fits what is lent
 mod walk; // walk.rt: where the rows of each kind stand, or why not
 
@@ -97,9 +98,24 @@ pub fn read(
             let mutations_at = found.mutations;
             let samples_at = found.samples;
             fill::nodes(bytes, nodes_at.start, nodes_at.count, time, birth);
-            fill::edges(bytes, edges_at.start, edges_at.count, left, right, parent, child);
+            fill::edges(
+                bytes,
+                edges_at.start,
+                edges_at.count,
+                left,
+                right,
+                parent,
+                child,
+            );
             fill::sites(bytes, sites_at.start, sites_at.count, position, ancestral);
-            fill::mutations(bytes, mutations_at.start, mutations_at.count, site, node, derived);
+            fill::mutations(
+                bytes,
+                mutations_at.start,
+                mutations_at.count,
+                site,
+                node,
+                derived,
+            );
             fill::samples(bytes, samples_at.start, samples_at.count, samples);
             ReadAnswer::Done { len, rows }
         }

@@ -2,7 +2,6 @@
 ghost use mathlib.Core.Path.{_≡_};
 ghost use Prim.Native.Nat.{min};
 ghost use Rattle.stored.specs.Answers.{Ample, Lacking};
-
 use crate::Fault;
 use crate::Layout;
 use crate::Rows;

@@ -4,7 +4,6 @@ ghost use Prim.Native.Nat.{ℕ, _+_, _*_, _<_, _≤_};
 ghost use lib.ListN.{length};
 ghost use Rattle.stored.specs.Stored.{isMark};
 ghost use Rattle.stored.specs.Posts.{Stretched, Stepped, KindsScanned, Scanned, EndScanned};
-
 use crate::Layout;
 use crate::Scan;
 use crate::Step;
@@ -81,7 +80,11 @@ pub fn end(s: &[u8], at: usize) -> Step
     if 2 < s.len() - at {
         return Step::Refused(Refusal::BytesFollow(at + 2));
     }
-    Step::Ends(Stretch { start: at, count: 0, end: at })
+    Step::Ends(Stretch {
+        start: at,
+        count: 0,
+        end: at,
+    })
 }
 
 // All kinds in their order, and the end of the file.
@@ -110,7 +113,13 @@ pub fn kinds(s: &[u8]) -> Scan
         Step::Refused(x) => return Scan::Refused(x),
     };
     match end(s, mutations.end) {
-        Step::Ends(_) => Scan::Found(Layout { samples, nodes, edges, sites, mutations }),
+        Step::Ends(_) => Scan::Found(Layout {
+            samples,
+            nodes,
+            edges,
+            sites,
+            mutations,
+        }),
         Step::Refused(x) => Scan::Refused(x),
     }
 }

@@ -29,13 +29,13 @@ enum-known-x c = search needs
 
 returns : tie.Need-returns
 unfolding kindsThen kinds size total KindsScanned
-returns c = 
+returns c =
     let s : List ℕ = c .before .before .before .before .before .args .s .now in
     λ rest. stopped (SA limits) 6 refl s 6 6 refl (c .before .before .before .kind .result) (c .before .before .before .kind .ensures) (c .before .x .given .0 .0) (c .before .x .given .1) (kindsThen (ND limits ∷ ED 2 limits ∷ SI limits ∷ MU 2 limits ∷ []) s (nodesFrom limits s) rest)
 
 kind-requires-2 : tie.Need-kind-requires-2
 unfolding size total
-kind-requires-2 c κs = 
+kind-requires-2 c κs =
     let s : List ℕ = c .before .before .before .before .before .args .s .now in
     let w0 : Stretch = c .before .w .given .0 .0 in
     let g0 : Went (SA limits) 6 s 6 w0 = went (SA limits) 6 refl s 6 6 refl (c .before .before .before .kind .result) (c .before .before .before .kind .ensures) w0 (c .before .w .given .1) in
@@ -50,7 +50,7 @@ enum-known-x-2 c = search needs
 
 returns-2 : tie.Need-returns-2
 unfolding kindsThen kinds size total KindsScanned
-returns-2 c = 
+returns-2 c =
     let s : List ℕ = c .before .before .before .before .before .before .before .before .before .args .s .now in
     let w0 : Stretch = c .before .before .before .before .before .w .given .0 .0 in
     let g0 : Went (SA limits) 6 s 6 w0 = went (SA limits) 6 refl s 6 6 refl (c .before .before .before .before .before .before .before .kind .result) (c .before .before .before .before .before .before .before .kind .ensures) w0 (c .before .before .before .before .before .w .given .1) in
@@ -58,7 +58,7 @@ returns-2 c =
 
 kind-requires-3 : tie.Need-kind-requires-3
 unfolding size total
-kind-requires-3 c κs = 
+kind-requires-3 c κs =
     let s : List ℕ = c .before .before .before .before .before .before .before .before .before .args .s .now in
     let w0 : Stretch = c .before .before .before .before .before .w .given .0 .0 in
     let g0 : Went (SA limits) 6 s 6 w0 = went (SA limits) 6 refl s 6 6 refl (c .before .before .before .before .before .before .before .kind .result) (c .before .before .before .before .before .before .before .kind .ensures) w0 (c .before .before .before .before .before .w .given .1) in
@@ -76,7 +76,7 @@ enum-known-x-3 c = search needs
 
 returns-3 : tie.Need-returns-3
 unfolding kindsThen kinds size total KindsScanned
-returns-3 c = 
+returns-3 c =
     let s : List ℕ = c .before .before .before .before .before .before .before .before .before .before .before .before .before .args .s .now in
     let w0 : Stretch = c .before .before .before .before .before .before .before .before .before .w .given .0 .0 in
     let g0 : Went (SA limits) 6 s 6 w0 = went (SA limits) 6 refl s 6 6 refl (c .before .before .before .before .before .before .before .before .before .before .before .kind .result) (c .before .before .before .before .before .before .before .before .before .before .before .kind .ensures) w0 (c .before .before .before .before .before .before .before .before .before .w .given .1) in
@@ -86,7 +86,7 @@ returns-3 c =
 
 kind-requires-4 : tie.Need-kind-requires-4
 unfolding size total
-kind-requires-4 c κs = 
+kind-requires-4 c κs =
     let s : List ℕ = c .before .before .before .before .before .before .before .before .before .before .before .before .before .args .s .now in
     let w0 : Stretch = c .before .before .before .before .before .before .before .before .before .w .given .0 .0 in
     let g0 : Went (SA limits) 6 s 6 w0 = went (SA limits) 6 refl s 6 6 refl (c .before .before .before .before .before .before .before .before .before .before .before .kind .result) (c .before .before .before .before .before .before .before .before .before .before .before .kind .ensures) w0 (c .before .before .before .before .before .before .before .before .before .w .given .1) in
@@ -107,7 +107,7 @@ enum-known-x-4 c = search needs
 
 returns-4 : tie.Need-returns-4
 unfolding kindsThen kinds size total KindsScanned
-returns-4 c = 
+returns-4 c =
     let s : List ℕ = c .before .before .before .before .before .before .before .before .before .before .before .before .before .before .before .before .before .args .s .now in
     let w0 : Stretch = c .before .before .before .before .before .before .before .before .before .before .before .before .before .w .given .0 .0 in
     let g0 : Went (SA limits) 6 s 6 w0 = went (SA limits) 6 refl s 6 6 refl (c .before .before .before .before .before .before .before .before .before .before .before .before .before .before .before .kind .result) (c .before .before .before .before .before .before .before .before .before .before .before .before .before .before .before .kind .ensures) w0 (c .before .before .before .before .before .before .before .before .before .before .before .before .before .w .given .1) in
@@ -119,7 +119,7 @@ returns-4 c =
 
 kind-requires-5 : tie.Need-kind-requires-5
 unfolding size total
-kind-requires-5 c κs = 
+kind-requires-5 c κs =
     let s : List ℕ = c .before .before .before .before .before .before .before .before .before .before .before .before .before .before .before .before .before .args .s .now in
     let w0 : Stretch = c .before .before .before .before .before .before .before .before .before .before .before .before .before .w .given .0 .0 in
     let g0 : Went (SA limits) 6 s 6 w0 = went (SA limits) 6 refl s 6 6 refl (c .before .before .before .before .before .before .before .before .before .before .before .before .before .before .before .kind .result) (c .before .before .before .before .before .before .before .before .before .before .before .before .before .before .before .kind .ensures) w0 (c .before .before .before .before .before .before .before .before .before .before .before .before .before .w .given .1) in
@@ -143,7 +143,7 @@ enum-known-x-5 c = search needs
 
 returns-5 : tie.Need-returns-5
 unfolding kindsThen kinds size total KindsScanned
-returns-5 c = 
+returns-5 c =
     let s : List ℕ = c .before .before .before .before .before .before .before .before .before .before .before .before .before .before .before .before .before .before .before .before .before .args .s .now in
     let w0 : Stretch = c .before .before .before .before .before .before .before .before .before .before .before .before .before .before .before .before .before .w .given .0 .0 in
     let g0 : Went (SA limits) 6 s 6 w0 = went (SA limits) 6 refl s 6 6 refl (c .before .before .before .before .before .before .before .before .before .before .before .before .before .before .before .before .before .before .before .kind .result) (c .before .before .before .before .before .before .before .before .before .before .before .before .before .before .before .before .before .before .before .kind .ensures) w0 (c .before .before .before .before .before .before .before .before .before .before .before .before .before .before .before .before .before .w .given .1) in
@@ -157,7 +157,7 @@ returns-5 c =
 
 end-requires : tie.Need-end-requires
 unfolding size total
-end-requires c κs = 
+end-requires c κs =
     let s : List ℕ = c .before .before .before .before .before .before .before .before .before .before .before .before .before .before .before .before .before .before .before .before .before .args .s .now in
     let w0 : Stretch = c .before .before .before .before .before .before .before .before .before .before .before .before .before .before .before .before .before .w .given .0 .0 in
     let g0 : Went (SA limits) 6 s 6 w0 = went (SA limits) 6 refl s 6 6 refl (c .before .before .before .before .before .before .before .before .before .before .before .before .before .before .before .before .before .before .before .kind .result) (c .before .before .before .before .before .before .before .before .before .before .before .before .before .before .before .before .before .before .before .kind .ensures) w0 (c .before .before .before .before .before .before .before .before .before .before .before .before .before .before .before .before .before .w .given .1) in
@@ -184,7 +184,7 @@ enum-known-x-6 c = search needs
 
 returns-6 : tie.Need-returns-6
 unfolding kindsThen kinds size total KindsScanned
-returns-6 c = 
+returns-6 c =
     let s : List ℕ = c .before .before .before .before .before .before .before .before .before .before .before .before .before .before .before .before .before .before .before .before .before .before .before .before .args .s .now in
     let w0 : Stretch = c .before .before .before .before .before .before .before .before .before .before .before .before .before .before .before .before .before .before .before .before .w .given .0 .0 in
     let g0 : Went (SA limits) 6 s 6 w0 = went (SA limits) 6 refl s 6 6 refl (c .before .before .before .before .before .before .before .before .before .before .before .before .before .before .before .before .before .before .before .before .before .before .kind .result) (c .before .before .before .before .before .before .before .before .before .before .before .before .before .before .before .before .before .before .before .before .before .before .kind .ensures) w0 (c .before .before .before .before .before .before .before .before .before .before .before .before .before .before .before .before .before .before .before .before .w .given .1) in
@@ -200,7 +200,7 @@ returns-6 c =
 
 returns-7 : tie.Need-returns-7
 unfolding kindsThen kinds size total KindsScanned
-returns-7 c = 
+returns-7 c =
     let s : List ℕ = c .before .before .before .before .before .before .before .before .before .before .before .before .before .before .before .before .before .before .before .before .before .before .before .before .before .args .s .now in
     let w0 : Stretch = c .before .before .before .before .before .before .before .before .before .before .before .before .before .before .before .before .before .before .before .before .before .w .given .0 .0 in
     let g0 : Went (SA limits) 6 s 6 w0 = went (SA limits) 6 refl s 6 6 refl (c .before .before .before .before .before .before .before .before .before .before .before .before .before .before .before .before .before .before .before .before .before .before .before .kind .result) (c .before .before .before .before .before .before .before .before .before .before .before .before .before .before .before .before .before .before .before .before .before .before .before .kind .ensures) w0 (c .before .before .before .before .before .before .before .before .before .before .before .before .before .before .before .before .before .before .before .before .before .w .given .1) in
