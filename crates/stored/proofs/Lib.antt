@@ -5,3 +5,5 @@ pub mod Filling
 pub mod Rooming
 pub mod Returning
 pub mod Laying
+pub mod Admitting
+pub mod Writing

@@ -30,20 +30,31 @@ pub record Narrow (w : ℕ) (T : Tables) : Type 0 where
   pub edges : (i : ℕ) → i < length (T .edges .left) → tooWide w (T .edges .parent) (T .edges .child) i ≡ false
   pub muts : (i : ℕ) → i < length (T .muts .site) → tooWide w (T .muts .site) (T .muts .node) i ≡ false
 
+-- 1 is not answered
+pub shapes-pass : (T : Tables) (rest : Answer) → Shaped T → shapes T rest ≡ rest
+unfolding shapes
+shapes-pass T rest s = refuse-no 1 1 _ (s .nodes) ∙ refuse-no 1 2 _ (s .edges) ∙ refuse-no 1 3 _ (s .sites) ∙ refuse-no 1 4 rest (s .muts)
+
+-- 2 is not answered
+pub sizes-pass : (m : Limits) (T : Tables) (S : List ℕ) (rest : Answer) → Within m T S → sizes m T (tooMany 5 (m .samples) S rest) ≡ rest
+unfolding sizes
+sizes-pass m T S rest l =
+    refuse-no 2 1 _ (le-ltb (m .nodes) (length (T .nodes .time)) (l .nodes))
+    ∙ refuse-no 2 2 _ (le-ltb (m .edges) (length (T .edges .left)) (l .edges))
+    ∙ refuse-no 2 3 _ (le-ltb (m .sites) (length (T .sites .position)) (l .sites))
+    ∙ refuse-no 2 4 _ (le-ltb (m .mutations) (length (T .muts .site)) (l .muts))
+    ∙ refuse-no 2 5 rest (le-ltb (m .samples) (length S) (l .samples))
+
 module _ (w : ℕ) (m : Limits) (L : ℕ) (T : Tables) (S : List ℕ) (room : ℕ) where
-  -- such tables are refused for want of room only
+  -- tables of that shape and size are tested for rows that fit
+  pub write-sized : Shaped T → Within m T S → writeAnswer w m L T S room ≡ refuseRow 35 (tooWide w (T .edges .parent) (T .edges .child)) (length (T .edges .left)) (refuseRow 36 (tooWide w (T .muts .site) (T .muts .node)) (length (T .muts .site)) (refuse (ltb room (length (written w m L T S))) 13 7 done))
+  unfolding writeAnswer
+  write-sized s l = shapes-pass T _ s ∙ sizes-pass m T S _ l
+
+  -- and refused for want of room only
   pub write-passes : Shaped T → Within m T S → Narrow w T → writeAnswer w m L T S room ≡ refuse (ltb room (length (written w m L T S))) 13 7 done
-  unfolding writeAnswer shapes sizes
   write-passes s l n =
-      refuse-no 1 1 _ (s .nodes)
-      ∙ refuse-no 1 2 _ (s .edges)
-      ∙ refuse-no 1 3 _ (s .sites)
-      ∙ refuse-no 1 4 _ (s .muts)
-      ∙ refuse-no 2 1 _ (le-ltb (m .nodes) (length (T .nodes .time)) (l .nodes))
-      ∙ refuse-no 2 2 _ (le-ltb (m .edges) (length (T .edges .left)) (l .edges))
-      ∙ refuse-no 2 3 _ (le-ltb (m .sites) (length (T .sites .position)) (l .sites))
-      ∙ refuse-no 2 4 _ (le-ltb (m .mutations) (length (T .muts .site)) (l .muts))
-      ∙ refuse-no 2 5 _ (le-ltb (m .samples) (length S) (l .samples))
+      write-sized s l
       ∙ row-no 35 (length (T .edges .left)) (tooWide w (T .edges .parent) (T .edges .child)) _ (n .edges)
       ∙ row-no 36 (length (T .muts .site)) (tooWide w (T .muts .site) (T .muts .node)) _ (n .muts)
 

@@ -4,13 +4,18 @@ use mathlib.Core.List.{List, [], _∷_}
 use Prim.Native.Nat.{ℕ, _<_, _≤_}
 use lib.ListN.{length}
 use Rattle.meaning.specs.Rows.{Tables}
-use Rattle.meaning.specs.Answer.{done, refusalOf, room}
-use Rattle.stored.specs.Calls.{Reading}
+use Rattle.meaning.specs.Answer.{Answer, answer, done, limits, refusalOf, room}
+use Rattle.meaning.specs.Check.{shapes}
+use Rattle.stored.specs.Calls.{Reading, Writing}
+use Rattle.stored.specs.Admitted.{Shaped}
 use Rattle.stored.specs.declared.Rows.{Rows}
 use Rattle.stored.specs.declared.Fault.{Fault}
 use Rattle.stored.specs.declared.Fault.the-variants as fault
 use Rattle.stored.specs.declared.ReadAnswer.{ReadAnswer}
 use Rattle.stored.specs.declared.ReadAnswer.the-variants as read
+use Rattle.stored.specs.declared.WriteAnswer.{WriteAnswer}
+use Rattle.stored.specs.declared.WriteAnswer.the-variants as write
+use Rattle.stored.specs.declared.Lengths.{Lengths}
 
 -- what reading answers, and what the lent cells hold
 abbrev pub readOf : ReadAnswer → Tables → List ℕ → Reading
@@ -30,6 +35,11 @@ readOf (read.Refused x) cells samples = record {
   cells = cells;
   samples = samples;
 }
+
+-- what writing answers, and what the lent bytes hold
+abbrev pub writtenOf : WriteAnswer → List ℕ → Writing
+writtenOf (write.Done n) cells = record { answer = done; bytes = n; cells = cells }
+writtenOf (write.Refused x) cells = record { answer = refusalOf x; bytes = 0; cells = cells }
 
 -- ---- room
 
@@ -68,3 +78,28 @@ pub data Lowest (n r : Rows) : ℕ → Type 0 where
 unfoldable pub Lacking : Rows → Rows → Fault → Type 0
 Lacking n r fault.Nothing = Ample n r
 Lacking n r (fault.Table t) = Lowest n r t
+
+-- the limits, as so many rows
+abbrev pub mostRows : Rows
+mostRows = record { nodes = limits .nodes; edges = limits .edges; sites = limits .sites; mutations = limits .mutations; samples = limits .samples }
+
+-- ---- columns of one length
+
+-- n has the length of each column
+pub record Long (n : Lengths) (T : Tables) : Type 0 where
+  pub time : length (T .nodes .time) ≡ n .time
+  pub birth : length (T .nodes .birth) ≡ n .birth
+  pub left : length (T .edges .left) ≡ n .left
+  pub right : length (T .edges .right) ≡ n .right
+  pub parent : length (T .edges .parent) ≡ n .parent
+  pub child : length (T .edges .child) ≡ n .child
+  pub position : length (T .sites .position) ≡ n .position
+  pub ancestral : length (T .sites .ancestral) ≡ n .ancestral
+  pub site : length (T .muts .site) ≡ n .site
+  pub node : length (T .muts .node) ≡ n .node
+  pub derived : length (T .muts .derived) ≡ n .derived
+
+-- such columns have 01's shape, or 1 is answered with the table
+unfoldable pub Uneven : Lengths → Fault → Type 0
+Uneven n fault.Nothing = (T : Tables) → Long n T → Shaped T
+Uneven n (fault.Table t) = (T : Tables) (rest : Answer) → Long n T → shapes T rest ≡ answer 1 t

@@ -41,6 +41,15 @@ pub fn mark(at: usize, a: u8, b: u8, out: &mut [u8])
     put8(at + 1, b, out);
 }
 
+// The first record: its mark and L.
+pub fn head(len: u32, out: &mut [u8])
+    requires { ⌜ 6 ≤ length (now out) ⌝ }
+    ensures { λ _. ⌜ now (out .exit) ≡ lay 0 (83 ∷ 81 ∷ bytesOf 4 len) (now (out .entry)) ⌝ }
+{
+    mark(0, 83, 81, out);
+    put32(2, len, out);
+}
+
 // One sample's record.
 fn sample_row(at: usize, birth: u32, out: &mut [u8])
     requires { ⌜ at + 6 ≤ length (now out) ⌝ }

@@ -1,8 +1,8 @@
 // Reading and writing 01's stored form. What the bytes mean is in specs/.
 ghost use mathlib.Core.Path.{_≡_};
 ghost use Rattle.meaning.specs.Answer.{limits};
-ghost use Rattle.stored.specs.Calls.{reading};
-ghost use Rattle.stored.specs.Answers.{readOf};
+ghost use Rattle.stored.specs.Calls.{reading, writing};
+ghost use Rattle.stored.specs.Answers.{readOf, writtenOf};
 
 mod fill; // fill.rt: columns filled from the records
 mod lay; // lay.rt: records laid into lent bytes
@@ -55,6 +55,27 @@ pub enum Fault {
 // The answer of reading.
 pub enum ReadAnswer {
     Done { len: u32, rows: Rows },
+    Refused(meaning::Refusal),
+}
+
+// The lengths of the lent columns.
+pub struct Lengths {
+    pub time: usize,
+    pub birth: usize,
+    pub left: usize,
+    pub right: usize,
+    pub parent: usize,
+    pub child: usize,
+    pub position: usize,
+    pub ancestral: usize,
+    pub site: usize,
+    pub node: usize,
+    pub derived: usize,
+}
+
+// The answer of writing.
+pub enum WriteAnswer {
+    Done(usize),
     Refused(meaning::Refusal),
 }
 
@@ -120,4 +141,71 @@ pub fn read(
             ReadAnswer::Done { len, rows }
         }
     }
+}
+
+// Writes L, tables and samples into lent bytes.
+pub fn write(
+    len: u32,
+    samples: &[u32],
+    time: &[u32],
+    birth: &[u32],
+    left: &[u32],
+    right: &[u32],
+    parent: &[u32],
+    child: &[u32],
+    position: &[u32],
+    ancestral: &[u8],
+    site: &[u32],
+    node: &[u32],
+    derived: &[u8],
+    bytes: &mut [u8],
+) -> WriteAnswer
+    ensures { λ r. ⌜ writtenOf r (now (bytes .exit)) ≡ writing 2 limits len (record { nodes = record { time = now (time .entry); birth = now (birth .entry) }; edges = record { left = now (left .entry); right = now (right .entry); parent = now (parent .entry); child = now (child .entry) }; sites = record { position = now (position .entry); ancestral = now (ancestral .entry) }; muts = record { site = now (site .entry); node = now (node .entry); derived = now (derived .entry) } }) (now (samples .entry)) (now (bytes .entry)) ⌝ }
+{
+    let lengths = Lengths {
+        time: time.len(),
+        birth: birth.len(),
+        left: left.len(),
+        right: right.len(),
+        parent: parent.len(),
+        child: child.len(),
+        position: position.len(),
+        ancestral: ancestral.len(),
+        site: site.len(),
+        node: node.len(),
+        derived: derived.len(),
+    };
+    if let Fault::Table(t) = measure::uneven(lengths) {
+        return WriteAnswer::Refused(meaning::Refusal::Ragged(t));
+    }
+    let rows = Rows {
+        nodes: time.len(),
+        edges: left.len(),
+        sites: position.len(),
+        mutations: site.len(),
+        samples: samples.len(),
+    };
+    if let Fault::Table(t) = measure::lacking(rows, measure::most()) {
+        return WriteAnswer::Refused(meaning::Refusal::TooMany(t));
+    }
+    let edge = measure::first_wide(parent, child);
+    if edge < parent.len() {
+        return WriteAnswer::Refused(meaning::Refusal::EdgeWide(edge));
+    }
+    let mutation = measure::first_wide(site, node);
+    if mutation < site.len() {
+        return WriteAnswer::Refused(meaning::Refusal::MutationWide(mutation));
+    }
+    let count = measure::file_bytes(rows);
+    if bytes.len() < count {
+        return WriteAnswer::Refused(meaning::Refusal::NoRoom(meaning::Bytes::NUMBER));
+    }
+    lay::head(len, bytes);
+    let a = lay::samples(samples, 6, bytes);
+    let b = lay::nodes(time, birth, a, bytes);
+    let c = lay::edges(left, right, parent, child, b, bytes);
+    let d = lay::sites(position, ancestral, c, bytes);
+    let e = lay::mutations(site, node, derived, d, bytes);
+    lay::mark(e, 69, 78, bytes);
+    WriteAnswer::Done(count)
 }
