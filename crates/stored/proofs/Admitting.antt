@@ -70,14 +70,14 @@ module _ (n : Lengths) (T : Tables) (l : Long n T) where
 
     pub parent-uneven : n .birth ≡ n .time → n .right ≡ n .left → (n .parent ≡ n .left → ⊥) → shapes T rest ≡ answer 1 2
     parent-uneven a b h = edges-uneven a (
-      ragged-later (T .edges .left) (T .edges .right) (T .edges .parent ∷ T .edges .child ∷ []) (l .right ∙ b ∙ sym (l .left))
-      ∙ ragged-first (T .edges .left) (T .edges .parent) (T .edges .child ∷ []) (λ e. h (sym (l .parent) ∙ e ∙ l .left)))
+        ragged-later (T .edges .left) (T .edges .right) (T .edges .parent ∷ T .edges .child ∷ []) (l .right ∙ b ∙ sym (l .left))
+        ∙ ragged-first (T .edges .left) (T .edges .parent) (T .edges .child ∷ []) (λ e. h (sym (l .parent) ∙ e ∙ l .left)))
 
     pub child-uneven : n .birth ≡ n .time → n .right ≡ n .left → n .parent ≡ n .left → (n .child ≡ n .left → ⊥) → shapes T rest ≡ answer 1 2
     child-uneven a b c h = edges-uneven a (
-      ragged-later (T .edges .left) (T .edges .right) (T .edges .parent ∷ T .edges .child ∷ []) (l .right ∙ b ∙ sym (l .left))
-      ∙ ragged-later (T .edges .left) (T .edges .parent) (T .edges .child ∷ []) (l .parent ∙ c ∙ sym (l .left))
-      ∙ ragged-first (T .edges .left) (T .edges .child) [] (λ e. h (sym (l .child) ∙ e ∙ l .left)))
+        ragged-later (T .edges .left) (T .edges .right) (T .edges .parent ∷ T .edges .child ∷ []) (l .right ∙ b ∙ sym (l .left))
+        ∙ ragged-later (T .edges .left) (T .edges .parent) (T .edges .child ∷ []) (l .parent ∙ c ∙ sym (l .left))
+        ∙ ragged-first (T .edges .left) (T .edges .child) [] (λ e. h (sym (l .child) ∙ e ∙ l .left)))
 
     pub sites-uneven : n .birth ≡ n .time → n .right ≡ n .left → n .parent ≡ n .left → n .child ≡ n .left → (n .ancestral ≡ n .position → ⊥) → shapes T rest ≡ answer 1 3
     unfolding shapes
@@ -92,8 +92,8 @@ module _ (n : Lengths) (T : Tables) (l : Long n T) where
 
     pub derived-uneven : n .birth ≡ n .time → n .right ≡ n .left → n .parent ≡ n .left → n .child ≡ n .left → n .ancestral ≡ n .position → n .node ≡ n .site → (n .derived ≡ n .site → ⊥) → shapes T rest ≡ answer 1 4
     derived-uneven a b c d e f h = muts-uneven a b c d e (
-      ragged-later (T .muts .site) (T .muts .node) (T .muts .derived ∷ []) (l .node ∙ f ∙ sym (l .site))
-      ∙ ragged-first (T .muts .site) (T .muts .derived) [] (λ q. h (sym (l .derived) ∙ q ∙ l .site)))
+        ragged-later (T .muts .site) (T .muts .node) (T .muts .derived ∷ []) (l .node ∙ f ∙ sym (l .site))
+        ∙ ragged-first (T .muts .site) (T .muts .derived) [] (λ q. h (sym (l .derived) ∙ q ∙ l .site)))
 
 -- ---- limits
 

@@ -17,7 +17,7 @@ use Rattle.laws.specs.Counting.{none-passes}
 use Rattle.stored.specs.Stored.{SA, ND, ED, SI, MU, kinds, form, size, total, bytesOf, recordsFrom, height, kindsBytes, formBytes}
 use Rattle.stored.specs.Calls.{Writing, ifDone, filed, tooWide, written, writeAnswer, laid, writing}
 use Rattle.stored.specs.Numbers.{length-bytes}
-use Rattle.stored.specs.Refusals.{refuse-no, refuse-yes}
+use Rattle.stored.specs.Refusals.{even-head, shape-even, refuse-no, refuse-yes, row-no}
 use Rattle.stored.specs.Admitted.{Shaped, Within, Narrow, shapes-pass, write-sized, write-passes}
 use Rattle.stored.specs.Posts.{lay}
 use Rattle.stored.specs.Answers.{Long, Counted, Ample, Lowest, Lacking, Uneven, mostRows, writtenOf}
@@ -163,3 +163,40 @@ module _ (L : ℕ) (T : Tables) (S : List ℕ) where
       pub sites : (d ≡ c + length (T .sites .position) * 7) × (o5 ≡ lay c si o4)
       pub muts : (e ≡ d + length (T .muts .site) * 7) × (o6 ≡ lay d mu o5)
       pub end : o7 ≡ lay e en o6
+
+    -- the file, and no more
+    pub write-done : {o1 o2 o3 o4 o5 o6 o7 : List ℕ} {a b c d e : ℕ} (count : ℕ) → count ≡ 8 + length S * 6 + length (T .nodes .time) * 10 + length (T .edges .left) * 14 + length (T .sites .position) * 7 + length (T .muts .site) * 7 → count ≤ length out → Steps o1 o2 o3 o4 o5 o6 o7 a b c d e → writtenOf (write.Done count) o7 ≡ writing 2 limits L T S out
+    unfolding writing laid ifDone left-by
+    write-done {o1} {o2} {o3} {o4} {o5} {o6} {o7} {a} {b} {c} {d} {e} count q h t =
+        let r : 8 + length S * 6 + length (T .nodes .time) * 10 + length (T .edges .left) * 14 + length (T .sites .position) * 7 + length (T .muts .site) * 7 ≤ length out = omega arith in
+        let e1 : o2 ≡ lay 0 (hd ++ sa) out = lay-chain 0 6 hd sa out (t .head) (t .samples .1) (omega (arith, length-hd)) (omega (arith, length-sa)) in
+        let e2 : o3 ≡ lay 0 ((hd ++ sa) ++ nd) out = lay-chain 0 a (hd ++ sa) nd out e1 (t .nodes .1) (omega (arith, t .samples .0, length-1)) (omega (arith, t .samples .0, length-nd)) in
+        let e3 : o4 ≡ lay 0 (((hd ++ sa) ++ nd) ++ ed) out = lay-chain 0 b ((hd ++ sa) ++ nd) ed out e2 (t .edges .1) (omega (arith, t .samples .0, t .nodes .0, length-2)) (omega (arith, t .samples .0, t .nodes .0, length-ed)) in
+        let e4 : o5 ≡ lay 0 ((((hd ++ sa) ++ nd) ++ ed) ++ si) out = lay-chain 0 c (((hd ++ sa) ++ nd) ++ ed) si out e3 (t .sites .1) (omega (arith, t .samples .0, t .nodes .0, t .edges .0, length-3)) (omega (arith, t .samples .0, t .nodes .0, t .edges .0, length-si)) in
+        let e5 : o6 ≡ lay 0 (((((hd ++ sa) ++ nd) ++ ed) ++ si) ++ mu) out = lay-chain 0 d ((((hd ++ sa) ++ nd) ++ ed) ++ si) mu out e4 (t .muts .1) (omega (arith, t .samples .0, t .nodes .0, t .edges .0, t .sites .0, length-4)) (omega (arith, t .samples .0, t .nodes .0, t .edges .0, t .sites .0, length-mu)) in
+        let e6 : o7 ≡ lay 0 ((((((hd ++ sa) ++ nd) ++ ed) ++ si) ++ mu) ++ en) out = lay-chain 0 e (((((hd ++ sa) ++ nd) ++ ed) ++ si) ++ mu) en out e5 (t .end) (omega (arith, t .samples .0, t .nodes .0, t .edges .0, t .sites .0, t .muts .0, length-5)) (omega (arith, t .samples .0, t .nodes .0, t .edges .0, t .sites .0, t .muts .0)) in
+        let f : o7 ≡ put (written 2 limits L T S) out = e6 ∙ ap (λ l. lay 0 l out) pieces ∙ lay-front (written 2 limits L T S) out in
+        let g : count ≡ length (written 2 limits L T S) = q ∙ sym length-written in
+        let k : writeAnswer 2 limits L T S (length out) ≡ done = write-passes 2 limits L T S (length out) s w n ∙ refuse-no 13 7 done (le-ltb (length out) (length (written 2 limits L T S)) (omega arith)) in
+        ap₂ (λ (x : ℕ) (y : List ℕ). record { answer = done; bytes = x; cells = y }) g f
+        ∙ ap (λ x. laid x (written 2 limits L T S) out) (sym k)
+
+-- ---- columns of one length, one by one
+
+module _ (T : Tables) (s : Shaped T) where
+  pub nodes-same : length (T .nodes .birth) ≡ length (T .nodes .time)
+  nodes-same = even-head (shape-even (T .nodes .time) (T .nodes .birth ∷ []) (s .nodes)) .0
+
+  pub edges-same : (length (T .edges .right) ≡ length (T .edges .left)) × (length (T .edges .parent) ≡ length (T .edges .left)) × (length (T .edges .child) ≡ length (T .edges .left))
+  edges-same =
+      let a : _ = even-head (shape-even (T .edges .left) (T .edges .right ∷ T .edges .parent ∷ T .edges .child ∷ []) (s .edges)) in
+      let b : _ = even-head (a .1) in
+      (a .0, b .0, even-head (b .1) .0)
+
+  pub sites-same : length (T .sites .ancestral) ≡ length (T .sites .position)
+  sites-same = even-head (shape-even (T .sites .position) (T .sites .ancestral ∷ []) (s .sites)) .0
+
+  pub muts-same : (length (T .muts .node) ≡ length (T .muts .site)) × (length (T .muts .derived) ≡ length (T .muts .site))
+  muts-same =
+      let a : _ = even-head (shape-even (T .muts .site) (T .muts .node ∷ T .muts .derived ∷ []) (s .muts)) in
+      (a .0, even-head (a .1) .0)

@@ -45,6 +45,10 @@ pub data Even (n : ℕ) : List (List ℕ) → Type 0 where
   nil : Even n []
   cons : {c : List ℕ} {cs : List (List ℕ)} → length c ≡ n → Even n cs → Even n (c ∷ cs)
 
+-- the first column, and those after it
+pub even-head : {n : ℕ} {c : List ℕ} {cs : List (List ℕ)} → Even n (c ∷ cs) → (length c ≡ n) × Even n cs
+even-head (cons e f) = (e, f)
+
 even-any : {n : ℕ} {cs : List (List ℕ)} → Even n cs → any (λ d. not (eqb (length d) n)) cs ≡ false
 unfolding any
 even-any nil = refl

@@ -14,7 +14,7 @@ use Rattle.laws.specs.Bools.{or-no}
 use Rattle.laws.specs.Counting.{length-rows, get-rows}
 use Rattle.stored.specs.Stored.{Kind, number, kinds, form, SA, ND, ED, SI, MU, size, rowsAt, after, formThen, formBytes, columns, tablesFrom, height}
 use Rattle.stored.specs.Calls.{filed, samplesIn, tablesIn, found, nodesFrom, edgesFrom, sitesFrom, mutsFrom, handed, roomAnswer, reading, tooWide, written, writeAnswer, laid, writing}
-use Rattle.stored.specs.Refusals.{Even, even-shape, shape-even}
+use Rattle.stored.specs.Refusals.{Even, even-head, even-shape, shape-even}
 use Rattle.stored.specs.Numbers.{Bytes, number-below}
 use Rattle.stored.specs.Marks.{whole-le}
 use Rattle.stored.specs.Records.{Fit}
@@ -48,10 +48,6 @@ unfolding tooWide
 narrow-both w a b i h =
     let p : _ = or-no (leb (256 ^ w) (at a i)) (leb (256 ^ w) (at b i)) h in
     (leb-false _ _ (p .0), leb-false _ _ (p .1))
-
--- a column of a table whose columns are even
-even-head : {n : ℕ} {c : List ℕ} {cs : List (List ℕ)} → Even n (c ∷ cs) → (length c ≡ n) × Even n cs
-even-head (Even.cons e f) = (e, f)
 
 -- tables that writing accepts fit the kinds
 filed-fits : (w : ℕ) (m : Limits) (T : Tables) (S : List ℕ) → Shaped T → Within m T S → Narrow w T → Cells T S → Fitting (kinds w m) (filed S T)
