@@ -1,0 +1,211 @@
+// Reading and writing 01's stored form. What the bytes mean is in specs/.
+ghost use mathlib.Core.Path.{_≡_};
+ghost use Rattle.meaning.specs.Answer.{limits};
+ghost use Rattle.stored.specs.Calls.{reading, writing};
+ghost use Rattle.stored.specs.Answers.{readOf, writtenOf};
+
+mod fill; // fill.rt: columns filled from the records
+mod lay; // lay.rt: records laid into lent bytes
+mod measure; // measure.rt: whether what was found fits what is lent
+mod walk; // walk.rt: where the rows of each kind stand, or why not
+
+// The rows of one kind: where its records start, how many there are, and where they end.
+pub struct Stretch {
+    pub start: usize,
+    pub count: usize,
+    pub end: usize,
+}
+
+// What reading one kind finds.
+pub enum Step {
+    Ends(Stretch),
+    Refused(meaning::Refusal),
+}
+
+// The rows of every kind.
+pub struct Layout {
+    pub samples: Stretch,
+    pub nodes: Stretch,
+    pub edges: Stretch,
+    pub sites: Stretch,
+    pub mutations: Stretch,
+}
+
+// What reading all kinds finds.
+pub enum Scan {
+    Found(Layout),
+    Refused(meaning::Refusal),
+}
+
+// The rows of each table: as many as are found, as many as there is room for, or as many as were read.
+pub struct Rows {
+    pub nodes: usize,
+    pub edges: usize,
+    pub sites: usize,
+    pub mutations: usize,
+    pub samples: usize,
+}
+
+// A test of the tables by their numbers: nothing, or the lowest table at fault.
+pub enum Fault {
+    Nothing,
+    Table(usize),
+}
+
+// The answer of reading.
+pub enum ReadAnswer {
+    Done { len: u32, rows: Rows },
+    Refused(meaning::Refusal),
+}
+
+// The lengths of the lent columns.
+pub struct Lengths {
+    pub time: usize,
+    pub birth: usize,
+    pub left: usize,
+    pub right: usize,
+    pub parent: usize,
+    pub child: usize,
+    pub position: usize,
+    pub ancestral: usize,
+    pub site: usize,
+    pub node: usize,
+    pub derived: usize,
+}
+
+// The answer of writing.
+pub enum WriteAnswer {
+    Done(usize),
+    Refused(meaning::Refusal),
+}
+
+// Reads a stored file into lent columns.
+pub fn read(
+    bytes: &[u8],
+    time: &mut [u32],
+    birth: &mut [u32],
+    left: &mut [u32],
+    right: &mut [u32],
+    parent: &mut [u32],
+    child: &mut [u32],
+    position: &mut [u32],
+    ancestral: &mut [u8],
+    site: &mut [u32],
+    node: &mut [u32],
+    derived: &mut [u8],
+    samples: &mut [u32],
+) -> ReadAnswer
+    ensures { λ r. ⌜ readOf r (record { nodes = record { time = now (time .exit); birth = now (birth .exit) }; edges = record { left = now (left .exit); right = now (right .exit); parent = now (parent .exit); child = now (child .exit) }; sites = record { position = now (position .exit); ancestral = now (ancestral .exit) }; muts = record { site = now (site .exit); node = now (node .exit); derived = now (derived .exit) } }) (now (samples .exit)) ≡ reading 2 limits (now (bytes .entry)) (record { nodes = record { time = now (time .entry); birth = now (birth .entry) }; edges = record { left = now (left .entry); right = now (right .entry); parent = now (parent .entry); child = now (child .entry) }; sites = record { position = now (position .entry); ancestral = now (ancestral .entry) }; muts = record { site = now (site .entry); node = now (node .entry); derived = now (derived .entry) } }) (now (samples .entry)) ⌝ }
+{
+    let found = match walk::scan(bytes) {
+        Scan::Found(l) => l,
+        Scan::Refused(x) => return ReadAnswer::Refused(x),
+    };
+    let lent = Rows {
+        nodes: measure::least(time.len(), birth.len()),
+        edges: measure::least4(left.len(), right.len(), parent.len(), child.len()),
+        sites: measure::least(position.len(), ancestral.len()),
+        mutations: measure::least3(site.len(), node.len(), derived.len()),
+        samples: samples.len(),
+    };
+    let rows = measure::found_rows(found);
+    match measure::lacking(rows, lent) {
+        Fault::Table(t) => ReadAnswer::Refused(meaning::Refusal::NoRoom(t)),
+        Fault::Nothing => {
+            let len = fill::get32(bytes, 2);
+            let nodes_at = found.nodes;
+            let edges_at = found.edges;
+            let sites_at = found.sites;
+            let mutations_at = found.mutations;
+            let samples_at = found.samples;
+            fill::nodes(bytes, nodes_at.start, nodes_at.count, time, birth);
+            fill::edges(
+                bytes,
+                edges_at.start,
+                edges_at.count,
+                left,
+                right,
+                parent,
+                child,
+            );
+            fill::sites(bytes, sites_at.start, sites_at.count, position, ancestral);
+            fill::mutations(
+                bytes,
+                mutations_at.start,
+                mutations_at.count,
+                site,
+                node,
+                derived,
+            );
+            fill::samples(bytes, samples_at.start, samples_at.count, samples);
+            ReadAnswer::Done { len, rows }
+        }
+    }
+}
+
+// Writes L, tables and samples into lent bytes.
+pub fn write(
+    len: u32,
+    samples: &[u32],
+    time: &[u32],
+    birth: &[u32],
+    left: &[u32],
+    right: &[u32],
+    parent: &[u32],
+    child: &[u32],
+    position: &[u32],
+    ancestral: &[u8],
+    site: &[u32],
+    node: &[u32],
+    derived: &[u8],
+    bytes: &mut [u8],
+) -> WriteAnswer
+    ensures { λ r. ⌜ writtenOf r (now (bytes .exit)) ≡ writing 2 limits len (record { nodes = record { time = now (time .entry); birth = now (birth .entry) }; edges = record { left = now (left .entry); right = now (right .entry); parent = now (parent .entry); child = now (child .entry) }; sites = record { position = now (position .entry); ancestral = now (ancestral .entry) }; muts = record { site = now (site .entry); node = now (node .entry); derived = now (derived .entry) } }) (now (samples .entry)) (now (bytes .entry)) ⌝ }
+{
+    let lengths = Lengths {
+        time: time.len(),
+        birth: birth.len(),
+        left: left.len(),
+        right: right.len(),
+        parent: parent.len(),
+        child: child.len(),
+        position: position.len(),
+        ancestral: ancestral.len(),
+        site: site.len(),
+        node: node.len(),
+        derived: derived.len(),
+    };
+    if let Fault::Table(t) = measure::uneven(lengths) {
+        return WriteAnswer::Refused(meaning::Refusal::Ragged(t));
+    }
+    let rows = Rows {
+        nodes: time.len(),
+        edges: left.len(),
+        sites: position.len(),
+        mutations: site.len(),
+        samples: samples.len(),
+    };
+    if let Fault::Table(t) = measure::lacking(rows, measure::most()) {
+        return WriteAnswer::Refused(meaning::Refusal::TooMany(t));
+    }
+    let edge = measure::first_wide(parent, child);
+    if edge < parent.len() {
+        return WriteAnswer::Refused(meaning::Refusal::EdgeWide(edge));
+    }
+    let mutation = measure::first_wide(site, node);
+    if mutation < site.len() {
+        return WriteAnswer::Refused(meaning::Refusal::MutationWide(mutation));
+    }
+    let count = measure::file_bytes(rows);
+    if bytes.len() < count {
+        return WriteAnswer::Refused(meaning::Refusal::NoRoom(meaning::Bytes::NUMBER));
+    }
+    lay::head(len, bytes);
+    let a = lay::samples(samples, 6, bytes);
+    let b = lay::nodes(time, birth, a, bytes);
+    let c = lay::edges(left, right, parent, child, b, bytes);
+    let d = lay::sites(position, ancestral, c, bytes);
+    let e = lay::mutations(site, node, derived, d, bytes);
+    lay::mark(e, 69, 78, bytes);
+    WriteAnswer::Done(count)
+}
