@@ -2,7 +2,7 @@
 use mathlib.Core.Path.{_≡_, refl, ap}
 use mathlib.Core.List.{List, [], _∷_, _++_, map}
 use mathlib.Core.Logic.{⊎-elim}
-use Prim.Native.Nat.{ℕ, suc, _+_, _*_, _<_, _≤_}
+use Prim.Native.Nat.{ℕ, _+_, _*_, _<_, _≤_}
 use native.Mathlib.Omega.{arith}
 use lib.ListN.{length, length-append}
 use Rattle.meaning.specs.Words.{at}
@@ -12,7 +12,7 @@ use Rattle.listing.specs.Listing.{decimal, rest, line, numbers, lines, n
 use Rattle.listing.specs.Written.{room}
 use Rattle.listing.proofs.Digits.{few-digits}
 use Rattle.listing.proofs.Going.{lines-most}
-use Rattle.listing.proofs.Pieces.{out-none, out-some, map-pieces, refused, refused-pieces}
+use Rattle.listing.proofs.Pieces.{out-none, out-some, map-pieces, refused-pieces}
 
 -- each cell of a column is below k
 abbrev pub Below : ℕ → List ℕ → Type 0

@@ -1,6 +1,6 @@
 -- 01's listing as bytes, by computing the definitions: P1's cleaned tables and node map, and the other lines.
 use mathlib.Core.Path.{_≡_, refl}
-use mathlib.Core.List.{List, [], _∷_, _++_}
+use mathlib.Core.List.{List, [], _∷_}
 use Prim.Native.Nat.{ℕ}
 use Rattle.meaning.specs.Forest.{stands}
 use Rattle.meaning.specs.Clean.{cleaned, nodeMap}

@@ -1,5 +1,5 @@
 -- 01, "A listing, whole": the printed bytes. 32 is the space, 10 the line feed, 45 the `-`, 48 the digit 0.
-use mathlib.Core.Bool.{Bool, true, false}
+use mathlib.Core.Bool.{true, false}
 use mathlib.Core.List.{List, [], _∷_, _++_, map}
 use Prim.Native.Nat.{ℕ, zero, suc, _+_, _/_, _%_}
 use lib.Dec.{eqb, ltb}

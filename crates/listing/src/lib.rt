@@ -3,7 +3,7 @@ mod put;
 mod rows;
 mod tables;
 
-ghost use Prim.Native.Nat.{_+_, _*_, _≤_};
+ghost use Prim.Native.Nat.{_≤_};
 ghost use lib.ListN.{length};
 ghost use Rattle.listing.specs.Listing.{listed, refusedLine, tooLong};
 ghost use Rattle.listing.specs.Written.{Printed, room};

@@ -1,7 +1,6 @@
 // Writing fields and lines into lent bytes at an offset; each function gives the offset behind what it wrote.
-ghost use mathlib.Core.Path.{_≡_};
-ghost use mathlib.Core.List.{List, [], _∷_};
-ghost use Prim.Native.Nat.{ℕ, _+_, _<_, _≤_};
+ghost use mathlib.Core.List.{[], _∷_};
+ghost use Prim.Native.Nat.{_+_, _<_, _≤_};
 ghost use lib.ListN.{length};
 ghost use Rattle.listing.specs.Listing.{decimal, numbers, lines, outRow};
 ghost use Rattle.listing.specs.Written.{Wrote, spaced};

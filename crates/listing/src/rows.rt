@@ -1,8 +1,7 @@
 // The line of one row of each table. A cell past the end of a column counts as 0.
 use crate::put;
 ghost use mathlib.Core.Path.{_≡_};
-ghost use mathlib.Core.List.{List, [], _∷_};
-ghost use Prim.Native.Nat.{ℕ, _+_, _<_, _≤_};
+ghost use Prim.Native.Nat.{_+_, _<_, _≤_};
 ghost use lib.ListN.{length};
 ghost use Rattle.meaning.specs.Words.{at as cellOf};
 ghost use Rattle.listing.specs.Listing.{nodeLine, edgeLine, siteLine, mutationLine, mapLine};

@@ -1,7 +1,6 @@
 // The lines of each table, one for a row; the first column counts the rows.
 use crate::rows;
-ghost use mathlib.Core.Path.{_≡_};
-ghost use Prim.Native.Nat.{ℕ, _+_, _<_, _≤_};
+ghost use Prim.Native.Nat.{_+_, _<_, _≤_};
 ghost use lib.ListN.{length};
 ghost use Rattle.listing.specs.Listing.{lines, nodeLine, edgeLine, siteLine, mutationLine, mapLine};
 ghost use Rattle.listing.specs.Written.{Wrote};

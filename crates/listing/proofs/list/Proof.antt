@@ -1,12 +1,12 @@
 -- `listing::list` meets its contract: the pieces of the listing, one after the other, for which the room suffices. Assumes nothing.
 use mathlib.Core.Path.{sym, ap}
-use mathlib.Core.List.{List, [], _∷_, _++_}
-use Prim.Native.Nat.{ℕ, _+_, _≤_}
+use mathlib.Core.List.{[], _∷_, _++_}
+use Prim.Native.Nat.{_+_, _≤_}
 use lib.ListN.{length}
 use Rattle.meaning.specs.Rows.{Tables}
 use Rattle.listing.specs.Listing.{numbers, lines, nodeLine, edgeLine, siteLine, mutationLine, mapLine}
 use Rattle.listing.proofs.Bounds.{Narrow, from-nodes, from-edges, from-sites, from-mutations, listed-pieces, listed-most}
-use Rattle.listing.proofs.Writing.{wrote-then, wrote-as, wrote-front, room-first, room-then, room-as}
+use Rattle.listing.proofs.Writing.{wrote-then, wrote-as, wrote-front, room-first, room-then}
 use native.Mathlib.Omega.{arith}
 use borrow.Author.Needs.{needs}
 use Rattle.listing.proofs.list.Statement.{statement}

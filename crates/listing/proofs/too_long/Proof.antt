@@ -1,7 +1,6 @@
 -- `listing::too_long` meets its contract: the bytes of the line. Assumes nothing.
 use Rattle.listing.specs.Listing.{rest, line, tooLong}
 use Rattle.listing.proofs.Writing.{wrote-front}
-use native.Mathlib.Omega.{arith}
 use borrow.Author.Needs.{needs}
 use Rattle.listing.proofs.too_long.Statement.{statement}
 use Rattle.listing.proofs.too_long.Tie as tie

@@ -7,7 +7,6 @@ use Rattle.listing.specs.Listing.{lines}
 use Rattle.listing.specs.Written.{spaced}
 use Rattle.listing.proofs.Going.{numbers-spaced}
 use Rattle.listing.proofs.Writing.{wrote-then, wrote-as, room-first, room-then, room-as}
-use native.Mathlib.Omega.{arith}
 use borrow.Author.Needs.{needs}
 use Rattle.listing.proofs.put.line.Statement.{statement}
 use Rattle.listing.proofs.put.line.Tie as tie

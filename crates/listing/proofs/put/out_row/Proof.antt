@@ -2,7 +2,6 @@
 use mathlib.Core.Path.{sym}
 use Rattle.listing.proofs.Pieces.{out-none, out-some}
 use Rattle.listing.proofs.Writing.{wrote-as, room-as}
-use native.Mathlib.Omega.{arith}
 use borrow.Author.Needs.{needs}
 use Rattle.listing.proofs.put.out_row.Statement.{statement}
 use Rattle.listing.proofs.put.out_row.Tie as tie

@@ -5,7 +5,6 @@ use mathlib.Core.Path.{sym}
 use Rattle.listing.proofs.Pieces.{single, word-bytes}
 use Rattle.listing.proofs.Going.{Going, going-start, going-room, going-more, going-end}
 use Rattle.listing.proofs.Writing.{wrote-length, wrote-as, room-as}
-use native.Mathlib.Omega.{arith}
 use borrow.Author.Needs.{needs}
 use Rattle.listing.proofs.put.word.Statement.{statement}
 use Rattle.listing.proofs.put.word.Tie as tie

@@ -3,7 +3,6 @@ use mathlib.Core.Path.{sym}
 use Rattle.listing.specs.Listing.{edgeLine}
 use Rattle.listing.proofs.Pieces.{four-as}
 use Rattle.listing.proofs.Writing.{wrote-as, room-as}
-use native.Mathlib.Omega.{arith}
 use borrow.Author.Needs.{needs}
 use Rattle.listing.proofs.rows.edge.Statement.{statement}
 use Rattle.listing.proofs.rows.edge.Tie as tie

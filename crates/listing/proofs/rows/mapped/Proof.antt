@@ -4,7 +4,6 @@ use mathlib.Core.List.{[], _∷_, _++_}
 use Rattle.listing.specs.Listing.{decimal, outRow}
 use Rattle.listing.proofs.Pieces.{map-pieces}
 use Rattle.listing.proofs.Writing.{wrote-then, wrote-as, room-first, room-then, room-as}
-use native.Mathlib.Omega.{arith}
 use borrow.Author.Needs.{needs}
 use Rattle.listing.proofs.rows.mapped.Statement.{statement}
 use Rattle.listing.proofs.rows.mapped.Tie as tie

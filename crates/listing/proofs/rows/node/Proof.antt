@@ -3,7 +3,6 @@ use mathlib.Core.Path.{sym}
 use Rattle.listing.specs.Listing.{nodeLine}
 use Rattle.listing.proofs.Pieces.{row-as}
 use Rattle.listing.proofs.Writing.{wrote-as, room-as}
-use native.Mathlib.Omega.{arith}
 use borrow.Author.Needs.{needs}
 use Rattle.listing.proofs.rows.node.Statement.{statement}
 use Rattle.listing.proofs.rows.node.Tie as tie

@@ -4,7 +4,6 @@ use lib.ListN.{length}
 use Rattle.listing.specs.Listing.{nodeLine}
 use Rattle.listing.proofs.Going.{Going, going-start, going-room, going-more, going-end}
 use Rattle.listing.proofs.Writing.{wrote-length}
-use native.Mathlib.Omega.{arith}
 use borrow.Author.Needs.{needs}
 use Rattle.listing.proofs.tables.nodes.Statement.{statement}
 use Rattle.listing.proofs.tables.nodes.Tie as tie
