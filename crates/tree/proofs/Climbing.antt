@@ -6,8 +6,8 @@ use mathlib.Core.Option.{Option, none, some}
 use mathlib.Core.Logic.{_⊎_, inl, inr, ⊎-elim}
 use Prim.Native.Nat.{ℕ, _+_, _<_, _≤_}
 use native.Mathlib.Omega.{arith}
-use borrow.Author.Tests.{lt-ltb, le-ltb, eq-eqb, ne-eqb, ltb-true, ltb-false}
-use lib.Dec.{eqb, ltb}
+use borrow.Author.Tests.{le-ltb}
+use lib.Dec.{ltb}
 use lib.ListN.{length, getD, set}
 use lib.Seq.{getD-set-same, getD-set-other}
 use Rattle.meaning.specs.Words.{or}
@@ -16,7 +16,7 @@ use Rattle.laws.specs.Bools.{clash, eq?}
 use Rattle.forest.specs.Lines.{Ranked}
 use Rattle.tree.specs.Right as right
 use Rattle.tree.specs.Right.{live, stands, Grows}
-use Rattle.tree.specs.Line.{parOf, Over, root, hit, on, Pass, start, next, Stop, ends, at, over, opt, Climb, Gained}
+use Rattle.tree.specs.Line.{parOf, Over, root, hit, on, Pass, start, next, Stop, ends, at, over, Climb, Gained}
 use Rattle.tree.proofs.Mending.{live-other}
 use Rattle.tree.proofs.Reading.{live-cases, dead, stands-no, stands-sample, stands-two, of-par, no-parent, ranked, opt-none, opt-some}
 

@@ -4,13 +4,13 @@ use mathlib.Core.Bool.{Bool, true, false}
 use mathlib.Core.List.{List}
 use mathlib.Core.Option.{Option, none, some}
 use mathlib.Core.Logic.{_⊎_, inl, inr, ⊎-elim}
-use Prim.Native.Nat.{ℕ, _+_, _<_, _≤_}
+use Prim.Native.Nat.{ℕ, _<_, _≤_}
 use native.Mathlib.Omega.{arith}
 use lib.ListN.{length, getD, set, length-set}
 use lib.Seq.{getD-set-same, getD-set-other}
 use Rattle.laws.specs.Bools.{clash, eq?}
 use Rattle.tree.specs.Right as right
-use Rattle.tree.specs.Right.{live, stands, Shape, Grows}
+use Rattle.tree.specs.Right.{live, stands, Grows}
 use Rattle.tree.specs.Line.{parOf, opt, Low, here, down, Over, Edge, Lives, Stop, ends, at, over, Gained}
 use Rattle.tree.specs.Kept.{Mended, UpOk, Kept, Enters, Heir}
 use Rattle.tree.proofs.Reading.{of-par, no-parent, par-off, ranked, opt-some, stands-live}

@@ -2,17 +2,17 @@
 use mathlib.Core.Path.{_≡_, refl, sym, ap, subst, _∙_}
 use mathlib.Core.Bool.{Bool, true, false}
 use mathlib.Core.List.{List}
-use mathlib.Core.Logic.{_⊎_, inl, inr, ⊎-elim}
-use Prim.Native.Nat.{ℕ, _+_, _-_, _<_, _≤_}
+use mathlib.Core.Logic.{⊎-elim}
+use Prim.Native.Nat.{ℕ, _-_, _<_, _≤_}
 use native.Mathlib.Omega.{arith}
-use borrow.Author.Tests.{lt-ltb, le-ltb}
-use lib.Dec.{eqb, ltb}
+use borrow.Author.Tests.{le-ltb}
+use lib.Dec.{ltb}
 use lib.ListN.{length, getD, set}
 use lib.Seq.{getD-set-same, getD-set-other}
 use Rattle.meaning.specs.Words.{or}
 use Rattle.laws.specs.Bools.{eq?}
 use Rattle.tree.specs.Right as right
-use Rattle.tree.specs.Right.{live, stands, Grows}
+use Rattle.tree.specs.Right.{live, stands}
 use Rattle.tree.specs.Line.{Under, Lost}
 use Rattle.tree.proofs.Mending.{live-other}
 use Rattle.tree.proofs.Reading.{live-cases, dead, stands-sample, stands-two}

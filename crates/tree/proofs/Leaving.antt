@@ -2,16 +2,16 @@
 use mathlib.Core.Path.{_≡_, refl, sym, ap, subst, _∙_}
 use mathlib.Core.Bool.{Bool, true, false}
 use mathlib.Core.List.{List}
-use mathlib.Core.Option.{Option, none, some}
+use mathlib.Core.Option.{Option, none}
 use mathlib.Core.Logic.{_⊎_, inl, inr, ⊎-elim}
-use Prim.Native.Nat.{ℕ, _+_, _<_, _≤_}
+use Prim.Native.Nat.{ℕ, _<_}
 use native.Mathlib.Omega.{arith}
 use lib.ListN.{length, getD, set, length-set}
 use lib.Seq.{getD-set-same, getD-set-other}
 use Rattle.laws.specs.Bools.{clash, eq?}
 use Rattle.forest.specs.Lines.{Ranked}
 use Rattle.tree.specs.Right as right
-use Rattle.tree.specs.Right.{W, live, stands, Shape, Grows}
+use Rattle.tree.specs.Right.{W, live, stands, Grows}
 use Rattle.tree.specs.Line.{parOf, opt, Low, here, down, Over, Edge, Lives, Lost}
 use Rattle.tree.specs.Kept.{Mended, UpOk, Kept, Heir}
 use Rattle.tree.proofs.Reading.{par-of, of-par, no-parent, par-off, ranked, opt-none, stands-live}

@@ -18,3 +18,4 @@ pub mod Placing
 pub mod Meaning
 pub mod Lowering
 pub mod Moving
+pub mod Checking

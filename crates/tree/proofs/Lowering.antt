@@ -1,7 +1,7 @@
 -- The row that the only live children lead to is the low of the definitions.
 use mathlib.Core.Path.{_≡_, refl, sym, ap, ap₂, subst, _∙_}
 use mathlib.Core.Bool.{Bool, true, false}
-use mathlib.Core.List.{List, [], _∷_}
+use mathlib.Core.List.{List, _∷_}
 use mathlib.Core.Option.{Option, none, some}
 use mathlib.Core.Logic.{_⊎_, inl, inr, ⊎-elim}
 use Prim.Native.Nat.{ℕ, zero, suc, _+_, _<_, _≤_}
@@ -15,7 +15,7 @@ use Rattle.laws.specs.Bools.{clash, not-true, eq?}
 use Rattle.laws.specs.Members.{mem-nil, mem-here, mem-there, mem-cases}
 use Rattle.laws.specs.Facts.{In, Distinct, nil, cons}
 use Rattle.forest.specs.Passing.{first-some, first-of}
-use Rattle.forest.specs.TreeLaws.{Aged, Nodes, feeds-of, of-feeds}
+use Rattle.forest.specs.TreeLaws.{Nodes, feeds-of, of-feeds}
 use Rattle.forest.specs.Lowest.{Rule, stands-rule}
 use Rattle.forest.specs.Code.{low-here, low-on}
 use Rattle.tree.specs.Right.{live, stands}
@@ -28,10 +28,10 @@ use Rattle.tree.proofs.Reaching.{aged, live-reached, stands-all}
 
 -- ---- the node rows, each once
 
-from-mem : (a i k : ℕ) → mem a (rowsFrom (λ v. v) i k) ≡ true → i ≤ a
+from-mem : (a i k : ℕ) → mem a (rowsFrom (λ v. v) i k) ≡ true → (i ≤ a) × (a < i + k)
 unfolding rowsFrom
 from-mem a i zero h = absurd (mem-nil a h)
-from-mem a i (suc k) h = ⊎-elim (λ (e : a ≡ i). omega arith) (λ m. omega (arith, from-mem a (suc i) k m)) (mem-cases a i (rowsFrom (λ v. v) (suc i) k) h)
+from-mem a i (suc k) h = ⊎-elim (λ (e : a ≡ i). (omega arith, omega arith)) (λ m. let r : _ = from-mem a (suc i) k m in (omega (arith, r .0), omega (arith, r .1))) (mem-cases a i (rowsFrom (λ v. v) (suc i) k) h)
 
 mem-from : (a i k : ℕ) → i ≤ a → a < i + k → mem a (rowsFrom (λ v. v) i k) ≡ true
 unfolding rowsFrom
@@ -45,14 +45,22 @@ mem-from a i (suc k) h l = go (eq? a i) (λ m. mem-from a (suc i) k m (omega ari
 once-from : (i k : ℕ) → Distinct (rowsFrom (λ v. v) i k)
 unfolding rowsFrom
 once-from i zero = nil
-once-from i (suc k) = cons (not-true (mem i (rowsFrom (λ v. v) (suc i) k)) (λ h. omega (arith, from-mem i (suc i) k h))) (once-from (suc i) k)
+once-from i (suc k) = cons (not-true (mem i (rowsFrom (λ v. v) (suc i) k)) (λ h. omega (arith, from-mem i (suc i) k h .0))) (once-from (suc i) k)
+
+pub rows-once : (n : ℕ) → Distinct (nodeRows n)
+unfolding rows
+rows-once n = once-from 0 n
+
+pub row-mem : (a n : ℕ) → mem a (nodeRows n) ≡ true → a < n
+unfolding rows
+row-mem a n h = omega (arith, from-mem a 0 n h .1)
+
+pub mem-row : (a n : ℕ) → a < n → mem a (nodeRows n) ≡ true
+unfolding rows
+mem-row a n l = mem-from a 0 n (omega arith) (omega arith)
 
 pub nodes : (P : List ℕ) → Nodes (parOf P) (nodeRows (length P))
-unfolding rows
-nodes P = record {
-  once = once-from 0 (length P);
-  listed = λ {b} {p} e. mem-from b 0 (length P) (omega arith) (omega (arith, par-of P b p e .0));
-}
+nodes P = record { once = rows-once (length P); listed = λ {b} {p} e. mem-row b (length P) (par-of P b p e .0) }
 
 -- ---- low
 

@@ -3,30 +3,30 @@ use mathlib.Core.Path.{_≡_, refl, sym, ap, ap₂, subst, _∙_}
 use mathlib.Core.Bool.{Bool, true, false}
 use mathlib.Core.List.{List}
 use mathlib.Core.Option.{Option, none, some}
-use mathlib.Core.Logic.{_⊎_, inl, inr, ⊎-elim}
-use Prim.Native.Nat.{ℕ, zero, suc, _+_, _<_, _≤_}
+use mathlib.Core.Logic.{⊎-elim}
+use Prim.Native.Nat.{ℕ, _+_, _<_, _≤_}
 use native.Mathlib.Omega.{arith}
 use lib.ListN.{length, getD}
 use lib.Seq.{ext-getD}
-use Rattle.meaning.specs.Words.{rows, firstOf}
+use Rattle.meaning.specs.Words.{rows}
 use Rattle.meaning.specs.Rows.{EdgeColumns}
 use Rattle.meaning.specs.Forest as def
-use Rattle.meaning.specs.Forest.{Par, Ages, reached, up, drawn}
-use Rattle.laws.specs.Bools.{clash, truth, eq?, none-some, some-inj}
+use Rattle.meaning.specs.Forest.{Par, reached, up, drawn}
+use Rattle.laws.specs.Bools.{truth, eq?, none-some, some-inj}
 use Rattle.laws.specs.Counting.{length-rows, get-rows}
 use Rattle.forest.specs.Contract.{Near, found, Up}
 use Rattle.forest.specs.Contract as contract
 use Rattle.forest.specs.TreeLaws.{Aged, up-of, of-up}
 use Rattle.tree.specs.Right as right
-use Rattle.tree.specs.Right.{live, stands}
+use Rattle.tree.specs.Right.{stands}
 use Rattle.tree.specs.Line.{parOf, opt, Over, root, hit, on}
-use Rattle.tree.specs.Kept.{Mended, UpOk, Kept}
-use Rattle.tree.specs.Sweep.{Swept}
+use Rattle.tree.specs.Kept.{Kept}
+use Rattle.tree.specs.Sweep.{Ahead, Swept}
 use Rattle.tree.specs.TreeAt.{code, columns, forestAt, standsAt, nodeRows, Flags, TreeAt}
 use Rattle.tree.proofs.Reading.{opt-none, opt-some, par-in}
 use Rattle.tree.proofs.Up.{over-one}
 use Rattle.tree.proofs.Reaching.{aged, live-reached, stands-all}
-use Rattle.tree.proofs.Placing.{placed}
+use Rattle.tree.proofs.Placing.{placed, ahead-between}
 
 -- ---- what is over a row is the up of the definitions
 
@@ -90,3 +90,18 @@ module _ {T S P C M U Q : List ℕ} (k : Kept T S P C M U) (fl : Flags S Q (leng
 -- the columns of a sweep that has come to x are those of the tree at x
 pub tree-at : {T S P C M U l r pa ch bl br Q : List ℕ} {i j : ℕ} (x : ℕ) → Swept T S P C M U l r pa ch bl br i j (x + 1) → Flags S Q (length P) → TreeAt (columns l r pa ch) Q (length P) x S P C U
 tree-at x sw fl = tree-is (sw .kept) fl _ x (placed x (sw .plan) (sw .ahead) (sw .holds) (sw .kept .mended .shape .rows))
+
+-- up to the next change y the columns are those of the tree at each position z
+pub swept-on : {T S P C M U l r pa ch bl br : List ℕ} {i j x y : ℕ} (z : ℕ) → Swept T S P C M U l r pa ch bl br i j (x + 1) → Ahead l r bl br i j y → x ≤ z → z < y → Swept T S P C M U l r pa ch bl br i j (z + 1)
+swept-on z sw ah h k = record { kept = sw .kept; plan = sw .plan; ahead = ahead-between (sw .ahead) ah (omega arith) (omega arith); holds = sw .holds }
+
+-- where the forest is the same, so is the tree
+pub tree-stays : {E : EdgeColumns} {Q S P C U : List ℕ} {n x z : ℕ} → forestAt E z ≡ forestAt E x → TreeAt E Q n x S P C U → TreeAt E Q n z S P C U
+unfolding standsAt
+tree-stays {E} {Q} {S} {P} {C} {U} {n} {x} {z} e t = record {
+  forest = t .forest ∙ sym e;
+  parents = t .parents ∙ ap (λ (F : Par). rows (λ u. code (F u)) n) (sym e);
+  reaches = λ u l. t .reaches u l ∙ ap (λ (F : Par). reached F Q u) (sym e);
+  stood = λ u l. t .stood u l ∙ ap (λ (F : Par). def.stands (nodeRows n) F Q u) (sym e);
+  ups = t .ups ∙ ap (λ (F : Par). rows (λ u. code (drawn F (def.stands (nodeRows n) F Q) u)) n) (sym e);
+}

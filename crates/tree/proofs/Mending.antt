@@ -1,16 +1,14 @@
 -- A climb mends one entry at a time: what lives after it, and where the next entry to mend is.
-use mathlib.Core.Path.{_≡_, refl, sym, ap, ap₂, subst, fun-ext, _∙_}
+use mathlib.Core.Path.{_≡_, refl, sym, subst, fun-ext, _∙_}
 use mathlib.Core.Bool.{Bool, true, false}
 use mathlib.Core.List.{List}
-use mathlib.Core.Logic.{_⊎_, inl, inr, ⊎-elim}
-use Prim.Native.Nat.{ℕ, zero, suc, _+_, _-_, _%_, _<_, _≤_}
-use native.Mathlib.Nat.{mod-lt, mod-eq-of-lt, mod-add-mod, add-mod-right, mod-mod, add-zero, eq-or-lt-of-le, le-of-suc-le-suc}
+use Prim.Native.Nat.{ℕ, _+_, _-_, _%_, _<_, _≤_}
 use native.Mathlib.Omega.{arith}
 use borrow.Author.Tests.{lt-ltb, le-ltb, eq-eqb, ne-eqb, eqb-true, eqb-false}
 use lib.Dec.{eqb, ltb}
 use lib.ListN.{length, getD, set, length-set}
 use lib.Seq.{getD-set-same, getD-set-other}
-use Rattle.meaning.specs.Words.{and, or}
+use Rattle.meaning.specs.Words.{and}
 use Rattle.laws.specs.Bools.{or-right}
 use Rattle.tree.specs.Right.{none, W, pick, total, one, row, live, feeds, By, Lacks, Excess, Right, Shape, Grows, climb}
 use Rattle.tree.proofs.Totals.{and-false, and-true, More, grow, shrink, bumped, taken, lacks-none, excess-none, total-le}

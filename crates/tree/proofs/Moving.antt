@@ -1,22 +1,21 @@
 -- A sweep starts with no edge, moves from change to change, and finds the next change.
-use mathlib.Core.Path.{_≡_, refl, sym, ap, subst, _∙_}
-use mathlib.Core.Bool.{Bool, true, false}
+use mathlib.Core.Path.{_≡_, refl, sym, ap, _∙_}
+use mathlib.Core.Bool.{Bool, false}
 use mathlib.Core.List.{List}
-use mathlib.Core.Option.{Option, none, some}
+use mathlib.Core.Option.{none}
 use mathlib.Core.Logic.{_⊎_, inl, inr, ⊎-elim}
-use Prim.Native.Nat.{ℕ, zero, suc, _+_, _*_, _-_, _%_, _<_, _≤_}
+use Prim.Native.Nat.{ℕ, zero, suc, _+_, _%_, _<_, _≤_}
 use native.Mathlib.Omega.{arith}
 use borrow.Author.Tests.{lt-ltb, le-ltb, ne-eqb}
-use lib.Dec.{eqb, ltb}
 use lib.ListN.{length, getD, set}
 use lib.Seq.{getD-set-same, getD-set-other}
 use Rattle.meaning.specs.Words.{and}
 use Rattle.tree.specs.Right as right
-use Rattle.tree.specs.Right.{W, pick, total, one, row, live, stands, feeds, Shape, Grows}
-use Rattle.tree.specs.Line.{parOf, opt, Over, root}
-use Rattle.tree.specs.Kept.{Mended, UpOk, Kept, Filled}
-use Rattle.tree.specs.Sweep.{Checked, Index, Cut, Ahead, Holds, seen, acts, Plan, Between, Swept, nextKey, nextChange}
-use Rattle.tree.proofs.Reading.{lt?, no-parent, opt-none, stands-live}
+use Rattle.tree.specs.Right.{W, total, one, row, live, feeds, Grows}
+use Rattle.tree.specs.Line.{root}
+use Rattle.tree.specs.Kept.{Mended, Kept, Filled}
+use Rattle.tree.specs.Sweep.{Index, Cut, Ahead, seen, Plan, Between, Swept, nextKey, nextChange}
+use Rattle.tree.proofs.Reading.{lt?, no-parent, opt-none}
 use Rattle.laws.specs.Bools.{clash, eq?}
 use Rattle.tree.proofs.Reaching.{no-row}
 use Rattle.tree.proofs.Seeing.{not-begun}

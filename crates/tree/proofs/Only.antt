@@ -1,21 +1,19 @@
 -- Where a row lives and does not stand, its sum is its only live child.
-use mathlib.Core.Path.{_≡_, refl, sym, ap, ap₂, subst, _∙_}
+use mathlib.Core.Path.{_≡_, refl, sym, ap, subst, _∙_}
 use mathlib.Core.Bool.{Bool, true, false}
 use mathlib.Core.List.{List}
-use mathlib.Core.Option.{Option, none, some}
+use mathlib.Core.Option.{none, some}
 use mathlib.Core.Logic.{_⊎_, inl, inr, ⊎-elim}
 use Prim.Native.Nat.{ℕ, zero, suc, _+_, _%_, _<_, _≤_}
 use native.Mathlib.Nat.{mod-eq-of-lt, add-zero}
 use native.Mathlib.Omega.{arith}
-use borrow.Author.Tests.{lt-ltb, le-ltb, eqb-true, eqb-false, ltb-true, ltb-false}
-use lib.Dec.{eqb, ltb}
 use lib.ListN.{length, getD}
-use Rattle.laws.specs.Bools.{clash, eq?}
+use Rattle.laws.specs.Bools.{eq?}
 use Rattle.tree.specs.Right as right
-use Rattle.tree.specs.Right.{W, pick, total, one, row, live, stands, feeds, By, Right, Shape, Grows}
+use Rattle.tree.specs.Right.{W, pick, total, one, row, live, stands, feeds, Right, Shape, Grows}
 use Rattle.tree.specs.Line.{parOf, Lives}
 use Rattle.tree.proofs.Mending.{live-count}
-use Rattle.tree.proofs.Reading.{not-standing, total-some, total-pos, feeds-is, is-feeds, par-of, of-par, live-cases}
+use Rattle.tree.proofs.Reading.{not-standing, total-pos, feeds-is, is-feeds, par-of, of-par, live-cases}
 
 total-none : (f : ℕ → Bool) (n : ℕ) → total one f n ≡ 0 → total row f n ≡ 0
 unfolding total

@@ -1,22 +1,22 @@
 -- Where the cursors stand at x, the column of parents is the forest at x; and nothing changes up to the next end of an edge.
-use mathlib.Core.Path.{_≡_, refl, sym, ap, ap₂, subst, fun-ext, _∙_}
+use mathlib.Core.Path.{_≡_, refl, sym, ap, subst, fun-ext, _∙_}
 use mathlib.Core.Bool.{Bool, true, false}
-use mathlib.Core.List.{List, [], _∷_}
+use mathlib.Core.List.{List}
 use mathlib.Core.Option.{Option, none, some}
-use mathlib.Core.Logic.{_⊎_, inl, inr, ⊎-elim}
+use mathlib.Core.Logic.{_⊎_, ⊎-elim}
 use Prim.Native.Nat.{ℕ, zero, suc, _+_, _<_, _≤_}
 use native.Mathlib.Omega.{arith}
 use borrow.Author.Tests.{eq-eqb, eqb-true, le-leb, leb-true, lt-ltb, ltb-true}
 use lib.Dec.{eqb, ltb, leb}
 use lib.ListN.{length, getD}
 use Rattle.meaning.specs.Words.{and, at, rows, rowsFrom}
-use Rattle.meaning.specs.Rows.{Edge, EdgeColumns, edgesOf}
+use Rattle.meaning.specs.Rows.{Edge, edgesOf}
 use Rattle.meaning.specs.Forest as def
-use Rattle.meaning.specs.Forest.{Par, parentIn}
+use Rattle.meaning.specs.Forest.{parentIn}
 use Rattle.laws.specs.Bools.{clash, and-of, and-yes, eq?, none-some}
 use Rattle.tree.specs.Right as right
 use Rattle.tree.specs.Line.{parOf}
-use Rattle.tree.specs.Sweep.{Checked, Index, Cut, Ahead, Holds, seen, acts, Plan}
+use Rattle.tree.specs.Sweep.{Ahead, Holds, acts, Plan}
 use Rattle.tree.specs.TreeAt.{columns, forestAt}
 use Rattle.tree.proofs.Reading.{lt?, of-par, no-parent, par-out}
 use Rattle.tree.proofs.Seeing.{acts-of, of-acts, past-seen, next-seen, seen-past, seen-next}
@@ -100,7 +100,8 @@ placed {T} {l} {r} {pa} {ch} {bl} {br} {P} {i} {j} x pl ah ho few = fun-ext (λ 
 
 -- ---- nothing changes where no edge begins or ends
 
-ahead-between : {l r bl br : List ℕ} {i j x y z : ℕ} → Ahead l r bl br i j x → Ahead l r bl br i j y → x ≤ z → z ≤ y → Ahead l r bl br i j z
+-- between two such positions the cursors stand right at each
+pub ahead-between : {l r bl br : List ℕ} {i j x y z : ℕ} → Ahead l r bl br i j x → Ahead l r bl br i j y → x ≤ z → z ≤ y → Ahead l r bl br i j z
 ahead-between a b h k = record {
   begun = record { within = a .begun .within; past = λ e m. omega (arith, a .begun .past e m); next = λ e m c. omega (arith, b .begun .next e m c) };
   ended = record { within = a .ended .within; past = λ e m. omega (arith, a .ended .past e m); next = λ e m c. omega (arith, b .ended .next e m c) };

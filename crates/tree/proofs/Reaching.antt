@@ -1,29 +1,28 @@
 -- Where the columns are right, live is reached, and what stands by the columns stands by the definitions.
 use mathlib.Core.Path.{_≡_, refl, sym, ap, ap₂, subst, fun-ext, _∙_}
 use mathlib.Core.Bool.{Bool, true, false}
-use mathlib.Core.List.{List, [], _∷_}
-use mathlib.Core.Option.{Option, none, some}
-use mathlib.Core.Logic.{_⊎_, inl, inr, ⊎-elim}
+use mathlib.Core.List.{List, _∷_}
+use mathlib.Core.Option.{none, some}
+use mathlib.Core.Logic.{⊎-elim}
 use Prim.Native.Nat.{ℕ, zero, suc, _+_, _<_, _≤_}
 use native.Mathlib.Omega.{arith}
-use borrow.Author.Tests.{lt-ltb, le-ltb, le-leb, lt-leb, ltb-true, ltb-false}
-use lib.Dec.{eqb, ltb, leb}
+use borrow.Author.Tests.{lt-ltb, le-ltb, le-leb, lt-leb, ltb-true}
+use lib.Dec.{ltb, leb}
 use lib.ListN.{length, getD, List·getD-eq-default}
 use Rattle.meaning.specs.Words.{or, mem, count, rows, rowsFrom}
 use Rattle.meaning.specs.Forest as def
-use Rattle.meaning.specs.Forest.{Par, Ages, reached}
-use Rattle.laws.specs.Bools.{clash, not-true, bool-ext, or-right}
-use Rattle.laws.specs.Facts.{In, Distinct}
+use Rattle.meaning.specs.Forest.{Ages, reached}
+use Rattle.laws.specs.Bools.{not-true, bool-ext}
+use Rattle.laws.specs.Facts.{In}
 use Rattle.forest.specs.Lines.{Above, here, step, trans}
 use Rattle.forest.specs.Contract.{Reached}
 use Rattle.forest.specs.TreeLaws.{Aged, reached-of, of-reached, feeds-of, of-feeds}
 use Rattle.tree.specs.Right as right
-use Rattle.tree.specs.Right.{pick, total, one, live, stands, feeds, Shape, Grows}
+use Rattle.tree.specs.Right.{pick, total, one, live, stands, feeds}
 use Rattle.tree.specs.Line.{parOf}
 use Rattle.tree.specs.Kept.{Mended}
 use Rattle.tree.specs.TreeAt.{nodeRows, Flags}
-use Rattle.tree.proofs.Reading.{lt?, total-some, total-pos, feeds-is, is-feeds, live-cases, live-sample, stands-sample, stands-no-sample, par-of, of-par, ranked}
-use Rattle.tree.proofs.Mending.{live-count}
+use Rattle.tree.proofs.Reading.{lt?, total-some, feeds-is, is-feeds, live-cases, live-sample, stands-no-sample, par-of, of-par, ranked}
 use Rattle.tree.proofs.Only.{lives}
 
 -- the rows of a test counted from the front and from the back

@@ -1,17 +1,16 @@
 -- One edge begins or ends: the column of parents stays that of the edges that hold.
-use mathlib.Core.Path.{_≡_, refl, sym, ap, subst, _∙_}
+use mathlib.Core.Path.{_≡_, sym, ap, subst, _∙_}
 use mathlib.Core.Bool.{Bool, true, false}
 use mathlib.Core.List.{List}
 use mathlib.Core.Logic.{_⊎_, inl, inr, ⊎-elim}
-use Prim.Native.Nat.{ℕ, zero, suc, _+_, _<_, _≤_}
+use Prim.Native.Nat.{ℕ, _+_, _<_, _≤_}
 use native.Mathlib.Omega.{arith}
 use lib.ListN.{length, getD, set, length-set}
 use lib.Seq.{getD-set-same, getD-set-other}
-use Rattle.laws.specs.Bools.{clash, not-true, eq?}
+use Rattle.laws.specs.Bools.{clash, eq?}
 use Rattle.tree.specs.Right as right
 use Rattle.tree.specs.Kept.{Enters}
-use Rattle.tree.specs.Sweep.{Checked, Index, Cut, Ahead, Holds, seen, acts, Plan, Between}
-use Rattle.tree.proofs.Reading.{lt?}
+use Rattle.tree.specs.Sweep.{Index, Cut, Holds, acts, Plan, Between}
 use Rattle.tree.proofs.Seeing.{not-seen, seen-here, acts-of, of-acts, not-acts, not-begun, acts-other, acts-still, past-seen, next-seen, seen-past, seen-next}
 
 -- ---- the column of parents, for any set of edges that hold

@@ -1,18 +1,17 @@
 -- Counts and sums of the rows that pass: what one row more or less changes, and the mending of one entry.
-use mathlib.Core.Path.{_≡_, refl, sym, ap, ap₂, subst, fun-ext, _∙_}
+use mathlib.Core.Path.{_≡_, refl, sym, ap, ap₂, _∙_}
 use mathlib.Core.Bool.{Bool, true, false}
 use mathlib.Core.List.{List}
-use mathlib.Core.Logic.{_⊎_, inl, inr, ⊎-elim}
+use mathlib.Core.Logic.{⊎-elim}
 use Prim.Native.Nat.{ℕ, zero, suc, _+_, _-_, _%_, _<_, _≤_}
-use native.Mathlib.Nat.{mod-lt, mod-eq-of-lt, mod-add-mod, add-mod-right, mod-mod, add-zero, eq-or-lt-of-le, le-of-suc-le-suc}
+use native.Mathlib.Nat.{mod-lt, mod-eq-of-lt, mod-add-mod, add-mod-right, add-zero, eq-or-lt-of-le, le-of-suc-le-suc}
 use native.Mathlib.Omega.{arith}
-use borrow.Author.Tests.{lt-ltb, le-ltb, eq-eqb, ne-eqb, eqb-true, eqb-false}
-use lib.Dec.{eqb, ltb}
-use lib.ListN.{length, getD, set, length-set}
+use borrow.Author.Tests.{ne-eqb, eqb-true, eqb-false}
+use lib.Dec.{eqb}
+use lib.ListN.{length, getD, set}
 use lib.Seq.{getD-set-same, getD-set-other}
 use Rattle.meaning.specs.Words.{and, or}
-use Rattle.laws.specs.Bools.{or-right}
-use Rattle.tree.specs.Right.{none, W, pick, total, one, row, live, feeds, By, Lacks, Excess, Right, Shape, Grows, climb}
+use Rattle.tree.specs.Right.{none, W, pick, total, one, row, By, Lacks, Excess}
 
 -- a total after one more row passes
 module _ (w : ℕ → ℕ) (f g : ℕ → Bool) (d : ℕ) (off : (v : ℕ) → (v ≡ d → ⊥) → f v ≡ g v) where

@@ -1,8 +1,7 @@
 -- The state of the tree's columns between two edges, and the rows whose nearest standing row above was written.
 use mathlib.Core.Path.{_≡_}
-use mathlib.Core.Bool.{Bool, true, false}
+use mathlib.Core.Bool.{true, false}
 use mathlib.Core.List.{List}
-use mathlib.Core.Logic.{_⊎_}
 use Prim.Native.Nat.{ℕ, _+_, _<_, _≤_}
 use lib.ListN.{length, getD}
 use Rattle.tree.specs.Right.{live, stands, Right, Shape, Grows}

@@ -1,10 +1,10 @@
 -- What the columns mean: the forest at a position, what is reached, what stands and the nearest standing row above, by the definitions.
 use mathlib.Core.Path.{_≡_}
-use mathlib.Core.Bool.{Bool, true, false}
+use mathlib.Core.Bool.{Bool, true}
 use mathlib.Core.List.{List}
 use mathlib.Core.Option.{Option, none, some}
-use Prim.Native.Nat.{ℕ, _<_, _≤_}
-use lib.ListN.{length, getD}
+use Prim.Native.Nat.{ℕ, _<_}
+use lib.ListN.{getD}
 use Rattle.meaning.specs.Words.{mem, rows}
 use Rattle.meaning.specs.Rows.{EdgeColumns, edgesOf}
 use Rattle.meaning.specs.Forest as def
