@@ -2,5 +2,4 @@
 pub mod Columns
 pub mod Placing
 pub mod Sweeping
-pub mod Sorted
 pub mod Met
