@@ -10,3 +10,4 @@ pub mod Kinds
 pub mod Admitted
 pub mod Answers
 pub mod RoundTrip
+pub mod ByHand

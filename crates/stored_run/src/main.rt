@@ -2,7 +2,6 @@
 // and says for each group how many cases there were and how many differ.
 ghost use mathlib.Core.Path.{_≡_};
 ghost use Prim.Native.Nat.{_<_};
-
 use libc::STDIN_FILENO;
 use libc::STDOUT_FILENO;
 use meaning::Refusal;
@@ -47,10 +46,7 @@ fn word(s: &[u8; 68], at: usize) -> u64 {
     if 64 < at {
         return 0;
     }
-    wide(s[at])
-        + wide(s[at + 1]) * 256
-        + wide(s[at + 2]) * 65536
-        + wide(s[at + 3]) * 16777216
+    wide(s[at]) + wide(s[at + 1]) * 256 + wide(s[at + 2]) * 65536 + wide(s[at + 3]) * 16777216
 }
 
 // A number for all cells of a column, after one for those before.
@@ -102,7 +98,7 @@ fn refused(x: Refusal) -> Seen {
     }
 }
 
-fn seen(r: ReadAnswer) -> Seen {
+fn answered(r: ReadAnswer) -> Seen {
     match r {
         ReadAnswer::Refused(x) => refused(x),
         ReadAnswer::Done { len, rows } => Seen {
@@ -147,6 +143,15 @@ fn agrees(head: &[u8; 68], s: Seen, fold: u64) -> bool {
     word(head, 64) == fold % 4294967291
 }
 
+// The first rows of a column.
+fn front32(a: &[u32], n: usize) -> &[u32] {
+    if n <= a.len() { &a[..n] } else { a }
+}
+
+fn front8(a: &[u8], n: usize) -> &[u8] {
+    if n <= a.len() { &a[..n] } else { a }
+}
+
 // Whether the rows that were read are written back byte for byte, and no byte after them changes.
 fn back(
     bytes: &[u8],
@@ -170,33 +175,21 @@ fn back(
     let sites = n.sites;
     let mutations = n.mutations;
     let listed = n.samples;
-    if time.len() < nodes || birth.len() < nodes || samples.len() < listed {
-        return false;
-    }
-    if left.len() < edges || right.len() < edges || parent.len() < edges || child.len() < edges {
-        return false;
-    }
-    if position.len() < sites || ancestral.len() < sites {
-        return false;
-    }
-    if site.len() < mutations || node.len() < mutations || derived.len() < mutations {
-        return false;
-    }
     let mut out = [9u8; 81920];
     let answer = stored::write(
         len,
-        &samples[..listed],
-        &time[..nodes],
-        &birth[..nodes],
-        &left[..edges],
-        &right[..edges],
-        &parent[..edges],
-        &child[..edges],
-        &position[..sites],
-        &ancestral[..sites],
-        &site[..mutations],
-        &node[..mutations],
-        &derived[..mutations],
+        front32(samples, listed),
+        front32(time, nodes),
+        front32(birth, nodes),
+        front32(left, edges),
+        front32(right, edges),
+        front32(parent, edges),
+        front32(child, edges),
+        front32(position, sites),
+        front8(ancestral, sites),
+        front32(site, mutations),
+        front32(node, mutations),
+        front8(derived, mutations),
         &mut out,
     );
     match answer {
@@ -205,7 +198,7 @@ fn back(
             if 81919 < count {
                 return false;
             }
-            out[count] == 9 && check::same(&out[..count], bytes)
+            out[count] == 9 && check::same(front8(&out, count), bytes)
         }
     }
 }
@@ -243,7 +236,7 @@ fn large(bytes: &[u8], head: &[u8; 68]) -> bool {
     let b = fold32(&child, fold32(&parent, fold32(&right, fold32(&left, a))));
     let c = fold8(&ancestral, fold32(&position, b));
     let d = fold8(&derived, fold32(&node, fold32(&site, c)));
-    if !agrees(head, seen(r), fold32(&samples, d)) {
+    if !agrees(head, answered(r), fold32(&samples, d)) {
         return false;
     }
     match r {
@@ -301,11 +294,21 @@ fn small(bytes: &[u8], head: &[u8; 68]) -> bool {
     let b = fold32(&child, fold32(&parent, fold32(&right, fold32(&left, a))));
     let c = fold8(&ancestral, fold32(&position, b));
     let d = fold8(&derived, fold32(&node, fold32(&site, c)));
-    agrees(head, seen(r), fold32(&samples, d))
+    agrees(head, answered(r), fold32(&samples, d))
+}
+
+// Fills the front of a buffer with the next bytes of the input; whether there were so many.
+fn fetch(buffer: &mut [u8], n: usize) -> bool {
+    if n <= buffer.len() {
+        let came = io::read_full(STDIN_FILENO, &mut buffer[..n]);
+        came == n
+    } else {
+        false
+    }
 }
 
 // One case: its head, its bytes, and whether reading them goes as the head says.
-fn turn() -> Turn {
+fn take_case() -> Turn {
     let mut head = [0u8; 68];
     let got = io::read_full(STDIN_FILENO, &mut head);
     if got < 68 {
@@ -318,15 +321,18 @@ fn turn() -> Turn {
     }
     let m = n as usize;
     let mut bytes = [0u8; 81920];
-    let came = io::read_full(STDIN_FILENO, &mut bytes[..m]);
-    if came < m {
+    if !fetch(&mut bytes, m) {
         return Turn::Over;
     }
     if kind == 0 {
-        io::write_all(STDOUT_FILENO, &bytes[..m]);
+        io::write_all(STDOUT_FILENO, front8(&bytes, m));
         return Turn::Group;
     }
-    let good = if kind == 1 { large(&bytes[..m], &head) } else { small(&bytes[..m], &head) };
+    let good = if kind == 1 {
+        large(front8(&bytes, m), &head)
+    } else {
+        small(front8(&bytes, m), &head)
+    };
     if good { Turn::Same } else { Turn::Differs }
 }
 
@@ -344,7 +350,7 @@ fn groups() {
     let mut differ: u64 = 0;
     while 0 < turns {
         turns -= 1;
-        match turn() {
+        match take_case() {
             Turn::Over => return,
             Turn::Same => {
                 cases += 1;
@@ -363,20 +369,16 @@ fn groups() {
 }
 
 // Writes one edge and one mutation, some times and samples, and says what is answered.
-fn wrote(what: &[u8], parent: u32, node: u32, times: usize, samples: &[u32], room: usize) {
+fn wrote(what: &[u8], parent: u32, node: u32, times: usize, samples: &[u32], out: &mut [u8]) {
     let t = [0u32; 2];
     let one = [1u32; 1];
     let p = [parent];
     let u = [node];
     let state = [65u8; 1];
-    let mut out = [0u8; 2048];
-    if 2 < times || 2048 < room {
-        return;
-    }
     let answer = stored::write(
         10,
         samples,
-        &t[..times],
+        front32(&t, times),
         &one,
         &one,
         &one,
@@ -387,7 +389,7 @@ fn wrote(what: &[u8], parent: u32, node: u32, times: usize, samples: &[u32], roo
         &one,
         &u,
         &state,
-        &mut out[..room],
+        out,
     );
     let s = match answer {
         WriteAnswer::Done(_) => refusal(0, 0),
@@ -404,11 +406,35 @@ fn main() {
     groups();
     let few = [5u32; 1];
     let over = [5u32; 257];
-    wrote(b"write, all well: ", 65535, 65535, 1, &few, 2048);
-    wrote(b"write, columns differ: ", 65536, 65536, 2, &over, 2048);
-    wrote(b"write, a sample too many: ", 65536, 65536, 1, &over, 2048);
-    wrote(b"write, a wide edge: ", 65536, 65536, 1, &few, 2048);
-    wrote(b"write, a wide mutation: ", 65535, 65536, 1, &few, 2048);
-    wrote(b"write, just room: ", 0, 0, 1, &few, 52);
-    wrote(b"write, a byte short: ", 0, 0, 1, &few, 51);
+    let mut large = [0u8; 64];
+    let mut just = [0u8; 52];
+    let mut short = [0u8; 51];
+    wrote(b"write, all well: ", 65535, 65535, 1, &few, &mut large);
+    wrote(
+        b"write, columns differ: ",
+        65536,
+        65536,
+        2,
+        &over,
+        &mut large,
+    );
+    wrote(
+        b"write, a sample too many: ",
+        65536,
+        65536,
+        1,
+        &over,
+        &mut large,
+    );
+    wrote(b"write, a wide edge: ", 65536, 65536, 1, &few, &mut large);
+    wrote(
+        b"write, a wide mutation: ",
+        65535,
+        65536,
+        1,
+        &few,
+        &mut large,
+    );
+    wrote(b"write, just room: ", 0, 0, 1, &few, &mut just);
+    wrote(b"write, a byte short: ", 0, 0, 1, &few, &mut short);
 }
