@@ -1,0 +1,112 @@
+// The check and the allele call on the tables of two blocks, and their answers by 01's numbers.
+use crate::block;
+use crate::block::Column;
+use meaning::Allele;
+use meaning::Checked;
+use meaning::Refusal;
+
+// A number and a row, and the state where an allele is read.
+pub struct Answer {
+    pub number: usize,
+    pub row: usize,
+    pub state: u32,
+}
+
+impl Answer {
+    // The number of an answer that 01 does not give to these calls.
+    pub const STRANGE: usize = 1000;
+}
+
+fn said(number: usize, row: usize) -> Answer {
+    Answer {
+        number: number,
+        row: row,
+        state: 0,
+    }
+}
+
+// 01's number and row of a refusal.
+fn refusal(r: Refusal) -> Answer {
+    match r {
+        Refusal::Ragged(t) => said(1, t),
+        Refusal::TooMany(t) => said(2, t),
+        Refusal::Length => said(3, 0),
+        Refusal::BirthRepeated(i) => said(4, i),
+        Refusal::EdgeBroken(i) => said(5, i),
+        Refusal::EdgeOrder(i) => said(6, i),
+        Refusal::EdgeShared(i) => said(7, i),
+        Refusal::SiteBroken(i) => said(8, i),
+        Refusal::MutationBroken(i) => said(9, i),
+        Refusal::MutationAbove(i) => said(10, i),
+        Refusal::SampleUnknown(i) => said(11, i),
+        Refusal::SampleRepeated(i) => said(12, i),
+        Refusal::NoSite => said(41, 0),
+        Refusal::NoBirth => said(42, 0),
+        _ => said(Answer::STRANGE, 0),
+    }
+}
+
+fn checked(c: Checked) -> Answer {
+    match c {
+        Checked::Sound => said(0, 0),
+        Checked::Refused(r) => refusal(r),
+    }
+}
+
+fn read(a: Allele) -> Answer {
+    match a {
+        Allele::State(v) => Answer {
+            number: 0,
+            row: 0,
+            state: v as u32,
+        },
+        Allele::Refused(r) => refusal(r),
+    }
+}
+
+// The check of the tables of two blocks.
+pub fn check(w: &[u32], s: &[u8]) -> Answer {
+    checked(checker::check(
+        block::get(w, Column::LENGTH as usize),
+        block::column_words(w, Column::TIME),
+        block::column_words(w, Column::BIRTH),
+        block::column_words(w, Column::LEFT),
+        block::column_words(w, Column::RIGHT),
+        block::column_words(w, Column::PARENT),
+        block::column_words(w, Column::CHILD),
+        block::column_words(w, Column::POSITION),
+        block::column_states(
+            s,
+            Column::ANCESTRAL,
+            block::get(w, Column::ANCESTRAL as usize),
+        ),
+        block::column_words(w, Column::SITE),
+        block::column_words(w, Column::NODE),
+        block::column_states(s, Column::DERIVED, block::get(w, Column::DERIVED as usize)),
+        block::column_words(w, Column::SAMPLES),
+    ))
+}
+
+// The allele of a birth number at a site row, in the tables of two blocks.
+pub fn allele(w: &[u32], s: &[u8], site: u32, birth: u32) -> Answer {
+    read(alleles::allele(
+        block::get(w, Column::LENGTH as usize),
+        block::column_words(w, Column::TIME),
+        block::column_words(w, Column::BIRTH),
+        block::column_words(w, Column::LEFT),
+        block::column_words(w, Column::RIGHT),
+        block::column_words(w, Column::PARENT),
+        block::column_words(w, Column::CHILD),
+        block::column_words(w, Column::POSITION),
+        block::column_states(
+            s,
+            Column::ANCESTRAL,
+            block::get(w, Column::ANCESTRAL as usize),
+        ),
+        block::column_words(w, Column::SITE),
+        block::column_words(w, Column::NODE),
+        block::column_states(s, Column::DERIVED, block::get(w, Column::DERIVED as usize)),
+        site,
+        birth,
+    ))
+}
