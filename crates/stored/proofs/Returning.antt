@@ -191,11 +191,11 @@ module _ (s : List ℕ) (l : Layout) (f : Whole s l) (n r : Rows) (e : n ≡ row
       let si : _ = room-two (l .sites .count) (out .sites .position) (out .sites .ancestral) (omega (arith, a .sites, q .sites)) in
       let mu : _ = room-three (l .mutations .count) (out .muts .site) (out .muts .node) (out .muts .derived) (omega (arith, a .muts, q .muts)) in
       record {
-        nodes = (stretch-records 78 68 10 1024 s (nodesFrom limits s) (l .nodes) (f .rows .nodes) o1, nd .0, nd .1);
-        edges = (stretch-records 69 68 14 4096 s (edgesFrom limits s) (l .edges) (f .rows .edges) o2, ed .0, ed .1, ed .2, ed .3);
-        sites = (stretch-records 83 73 7 512 s (sitesFrom 2 limits s) (l .sites) (f .rows .sites) o3, si .0, si .1);
-        muts = (stretch-records 77 85 7 1024 s (mutsFrom 2 limits s) (l .mutations) (f .rows .mutations) o4, mu .0, mu .1, mu .2);
-        samples = (stretch-records 83 65 6 256 s 6 (l .samples) (f .rows .samples) (f .first), room-one (l .samples .count) listOut (omega (arith, a .samples, q .samples)));
+        nodes = (stretch-records 78 68 10 (limits .nodes) s (nodesFrom limits s) (l .nodes) (f .rows .nodes) o1, nd .0, nd .1);
+        edges = (stretch-records 69 68 14 (limits .edges) s (edgesFrom limits s) (l .edges) (f .rows .edges) o2, ed .0, ed .1, ed .2, ed .3);
+        sites = (stretch-records 83 73 7 (limits .sites) s (sitesFrom 2 limits s) (l .sites) (f .rows .sites) o3, si .0, si .1);
+        muts = (stretch-records 77 85 7 (limits .mutations) s (mutsFrom 2 limits s) (l .mutations) (f .rows .mutations) o4, mu .0, mu .1, mu .2);
+        samples = (stretch-records 83 65 6 (limits .samples) s 6 (l .samples) (f .rows .samples) (f .first), room-one (l .samples .count) listOut (omega (arith, a .samples, q .samples)));
       }
 
   -- a file that doesn't fit

@@ -27,11 +27,11 @@ Stepped a b z most s o (step.Refused x) = (rest : Answer) → stopThen a b most 
 
 -- where the rows of each kind stand
 pub record Found (s : List ℕ) (l : Layout) : Type 0 where
-  pub samples : Stretched 83 65 6 256 s 6 (l .samples)
-  pub nodes : Stretched 78 68 10 1024 s (nodesFrom limits s) (l .nodes)
-  pub edges : Stretched 69 68 14 4096 s (edgesFrom limits s) (l .edges)
-  pub sites : Stretched 83 73 7 512 s (sitesFrom 2 limits s) (l .sites)
-  pub mutations : Stretched 77 85 7 1024 s (mutsFrom 2 limits s) (l .mutations)
+  pub samples : Stretched 83 65 6 (limits .samples) s 6 (l .samples)
+  pub nodes : Stretched 78 68 10 (limits .nodes) s (nodesFrom limits s) (l .nodes)
+  pub edges : Stretched 69 68 14 (limits .edges) s (edgesFrom limits s) (l .edges)
+  pub sites : Stretched 83 73 7 (limits .sites) s (sitesFrom 2 limits s) (l .sites)
+  pub mutations : Stretched 77 85 7 (limits .mutations) s (mutsFrom 2 limits s) (l .mutations)
 
 -- the whole file: its layout, or the refusal 31 to 34
 unfoldable pub Scanned : List ℕ → Scan → Type 0
