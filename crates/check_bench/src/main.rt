@@ -1,5 +1,5 @@
 // Prints how long the check and the allele call take at a quarter of the limits, at half of them and at the limits, on the worst
-// shapes: a line of nodes, and all edges of one child, each with all mutations on one site.
+// shapes: a line of nodes, and all edges of one child, each with all mutations on one site, and a line with a mutation at each site.
 //
 // Run it with an argument: target/bin/check_bench now. Without one it only says so, since times change from run to run.
 use check_tables::base;
@@ -13,6 +13,13 @@ use libc::STDOUT_FILENO;
 
 // How many calls are timed together.
 const CALLS: u32 = 10;
+
+// The shapes.
+const LINE: u32 = 0;
+
+const ONE_CHILD: u32 = 1;
+
+const SPREAD: u32 = 2;
 
 // A number of the clock's, 0 where it has none to tell.
 fn at_least_zero(t: i64) -> u64 {
@@ -57,16 +64,42 @@ fn timed(w: &mut [u32], s: &[u8], allele: bool) -> u64 {
     std::num::wrapping_sub_u64(ticks(), before)
 }
 
-// Prints the microseconds of one check and of one allele call on tables of so many nodes.
-fn measure(w: &mut [u32], s: &mut [u8], one_child: bool, nodes: u32) {
-    let z = Sizes {
+// The sizes that go with so many nodes, in the proportion of the limits.
+fn sizes(nodes: u32) -> Sizes {
+    Sizes {
         nodes: nodes,
         edges: (nodes % 65536) * 4,
         sites: nodes / 2,
         mutations: nodes,
         samples: nodes / 4,
-    };
-    base::make(w, s, one_child, z);
+    }
+}
+
+// Leaves n mutations.
+fn keep_mutations(w: &mut [u32], s: &mut [u8], n: u32) {
+    block::put(w, s, Column::HEADS, Column::SITE, n);
+    block::put(w, s, Column::HEADS, Column::NODE, n);
+    block::put(w, s, Column::HEADS, Column::DERIVED, n);
+}
+
+// One mutation at each of n sites, at the foot of the line.
+fn spread(w: &mut [u32], s: &mut [u8], n: u32) {
+    keep_mutations(w, s, n);
+    block::fill(w, s, Column::SITE, n, 0, 1);
+    block::fill(w, s, Column::NODE, n, 0, 0);
+}
+
+// Makes the tables of a shape.
+fn prepare(w: &mut [u32], s: &mut [u8], shape: u32, nodes: u32) {
+    base::make(w, s, shape == ONE_CHILD, sizes(nodes));
+    if shape == SPREAD {
+        spread(w, s, nodes / 2);
+    }
+}
+
+// Prints the microseconds of one check and of one allele call on tables of so many nodes.
+fn measure(w: &mut [u32], s: &mut [u8], shape: u32, nodes: u32) {
+    prepare(w, s, shape, nodes);
     write_number(b" ", nodes as u64);
     write_number(b" nodes: check ", timed(w, s, false) / 10);
     write_number(b" us, allele ", timed(w, s, true) / 10);
@@ -74,19 +107,21 @@ fn measure(w: &mut [u32], s: &mut [u8], one_child: bool, nodes: u32) {
 }
 
 // One shape at the three sizes.
-fn shape(w: &mut [u32], s: &mut [u8], one_child: bool) {
-    measure(w, s, one_child, 256);
-    measure(w, s, one_child, 512);
-    measure(w, s, one_child, 1024);
+fn measure_shape(w: &mut [u32], s: &mut [u8], shape: u32) {
+    measure(w, s, shape, 256);
+    measure(w, s, shape, 512);
+    measure(w, s, shape, 1024);
 }
 
 fn run() {
     let mut w = [0u32; Words::CELLS];
     let mut s = [0u8; States::CELLS];
     io::write_all(STDOUT_FILENO, b"a line of nodes\n");
-    shape(&mut w, &mut s, false);
+    measure_shape(&mut w, &mut s, LINE);
     io::write_all(STDOUT_FILENO, b"all edges of one child\n");
-    shape(&mut w, &mut s, true);
+    measure_shape(&mut w, &mut s, ONE_CHILD);
+    io::write_all(STDOUT_FILENO, b"a line of nodes, a mutation at each site\n");
+    measure_shape(&mut w, &mut s, SPREAD);
 }
 
 fn main() {

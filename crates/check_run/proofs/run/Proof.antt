@@ -1,6 +1,6 @@
 -- run is safe and ends. Invariant: the blocks keep their lengths. Measure: the bytes left.
 use mathlib.Core.Path.{_≡_}
-use Prim.Native.Nat.{_≤_, _-_}
+use Prim.Native.Nat.{_-_}
 use lib.ListN.{length}
 use borrow.Author.Needs.{needs}
 use Rattle.check_run.proofs.run.Statement.{statement}

@@ -1,6 +1,6 @@
 -- numbers is safe and ends. Invariant: the cells keep their length. Measure: the bytes left.
 use mathlib.Core.Path.{_≡_}
-use Prim.Native.Nat.{_≤_, _-_}
+use Prim.Native.Nat.{_-_}
 use lib.ListN.{length}
 use borrow.Author.Needs.{needs}
 use Rattle.check_run.proofs.lines.numbers.Statement.{statement}
