@@ -1,0 +1,3 @@
+-- Laws that the proofs of this crate's functions share, and that a join leans on.
+pub mod Born
+pub mod Tests

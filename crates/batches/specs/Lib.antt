@@ -1,0 +1,2 @@
+-- Rules 20 and 21 on lengths.
+pub mod Lengths
