@@ -80,6 +80,17 @@ index-right b (a ∷ l) m h = ⊎-elim
     (λ (n : b ≡ a → ⊥). omega (arith, index-later b a (l ++ m) n, index-right b l m (not-true (mem b l) (λ k. clash (mem-there b a l k) h))))
     (eq? b a)
 
+pub index-le : (b : ℕ) (l : List ℕ) → indexOf b l ≤ length l
+index-le b l = ⊎-elim (λ (e : mem b l ≡ true). omega (arith, index-below b l e)) (λ (e : mem b l ≡ false). omega (arith, index-absent b l e)) (truth (mem b l))
+
+-- the same of the rows that the searches gave
+module _ (base birth : List ℕ) (b : ℕ) where
+  pub row-in-base : (i : ℕ) → i ≡ indexOf b base → i < length base → i ≡ indexOf b (base ++ birth)
+  row-in-base i e h = e ∙ sym (index-left b base birth (index-there b base (omega arith)))
+
+  pub row-in-batch : (i j : ℕ) → i ≡ indexOf b base → j ≡ indexOf b birth → length base ≤ i → length base + j ≡ indexOf b (base ++ birth)
+  row-in-batch i j e f h = ap (λ k. length base + k) f ∙ sym (index-right b base birth (index-not-there b base (omega arith)))
+
 -- ---- the time
 
 module _ (f : ℕ → Node) (b : ℕ) where

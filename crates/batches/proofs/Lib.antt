@@ -1,3 +1,4 @@
 -- Laws that the proofs of this crate's functions share, and that a join leans on.
 pub mod Born
 pub mod Tests
+pub mod Fronts

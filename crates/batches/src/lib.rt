@@ -4,3 +4,4 @@ pub mod births; // rule 22, and the row and the time of a birth
 pub mod edges; // rule 23; rule 24 is rule 7 of the crate rules, on the batch's edges
 pub mod mutations; // rule 25
 pub mod lengths; // rules 20 and 21: numbers alone
+pub mod columns; // columns put together
