@@ -2,3 +2,4 @@
 pub mod Born
 pub mod Tests
 pub mod Fronts
+pub mod Marking

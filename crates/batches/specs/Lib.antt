@@ -1,2 +1,3 @@
--- Rules 20 and 21 on lengths.
+-- Rules 20 and 21 on lengths, and what rule 26 keeps and asks.
 pub mod Lengths
+pub mod Marked

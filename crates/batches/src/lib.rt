@@ -5,3 +5,4 @@ pub mod edges; // rule 23; rule 24 is rule 7 of the crate rules, on the batch's 
 pub mod mutations; // rule 25
 pub mod lengths; // rules 20 and 21: numbers alone
 pub mod columns; // columns put together
+pub mod above; // rule 26
