@@ -3,3 +3,5 @@ pub mod Born
 pub mod Tests
 pub mod Fronts
 pub mod Marking
+pub mod Together
+pub mod Reading
