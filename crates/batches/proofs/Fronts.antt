@@ -1,5 +1,5 @@
 -- A list put to the front of a column cell by cell, and the cells of joined and mapped columns.
-use mathlib.Core.Path.{_≡_, refl, sym, ap, _∙_}
+use mathlib.Core.Path.{_≡_, refl, sym, ap, ap₂, _∙_}
 use mathlib.Core.List.{List, [], _∷_, _++_, map}
 use Prim.Native.Nat.{ℕ, zero, suc, _+_, _<_, _≤_, _-_}
 use native.Mathlib.Nat.{not-suc-le-zero, le-of-suc-le-suc}
@@ -91,3 +91,15 @@ mapped-cell rows names f i h k = sym (get-right 0 rows (map f names) i k ∙ get
 
 pub length-mapped : (rows names : List ℕ) (f : ℕ → ℕ) → length (rows ++ map f names) ≡ length rows + length names
 length-mapped rows names f = length-append rows (map f names) ∙ ap (λ n. length rows + n) (length-map names f)
+
+-- ---- the front of a column, lent as a part
+
+module _ (l old out : List ℕ) (n : ℕ) (e : out ≡ put l old) (h : length l ≤ length old) (q : n ≡ length l) where
+  pub part-room : n ≤ length out
+  part-room = omega (arith, ap length e ∙ put-long l old h)
+
+  pub part : take n out ≡ l
+  part = ap₂ take q e ∙ put-front l old h
+
+  pub part-long : n ≡ length (take n out)
+  part-long = sym (ap length part ∙ sym q)

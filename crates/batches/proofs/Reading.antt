@@ -1,5 +1,5 @@
 -- The edges and mutations of base and batch by rows, read back by births: the definitions' lists, and rule 26.
-use mathlib.Core.Path.{_≡_, refl, sym, ap, ap₂, _∙_}
+use mathlib.Core.Path.{_≡_, refl, sym, ap, ap₂, subst, _∙_}
 use mathlib.Core.Bool.{Bool, true, false}
 use mathlib.Core.List.{List, [], _∷_, _++_, map}
 use mathlib.Core.Logic.{_⊎_, inl, inr, ⊎-elim}
@@ -120,3 +120,18 @@ module _ (L : ℕ) (T : Tables) (B : BatchTables) (j : Joint L T B) where
       ∙ births-lowest-10 all joint (all-once L T B j) (record { parent-row = λ e h. omega (arith, joint-parent-row L T B j e h, all-long L T B j); child-row = λ e h. omega (arith, joint-child-row L T B j e h, all-long L T B j) }) (T .sites .position) byRow batch-node-row
       ∙ sym (lowest-10 joint (T .sites .position) byRow (length (B .muts .site)))
     )
+
+    -- ---- of columns that hold the same
+
+    module _ (t l r p c w : List ℕ) (et : t ≡ allTimes T B) (el : l ≡ joint .left) (er : r ≡ joint .right) (ep : p ≡ joint .parent) (ec : c ≡ joint .child) (ew : w ≡ rowsIn all (B .muts .node)) where
+      abbrev held : EdgeColumns
+      held = record { left = l; right = r; parent = p; child = c }
+
+      held-is : held ≡ joint
+      held-is = ap₂ (λ x y. record { left = x; right = y; parent = p; child = c }) el er ∙ ap₂ (λ x y. record { left = joint .left; right = joint .right; parent = x; child = y }) ep ec
+
+      pub held-unlined : Unlined t held (length (T .sites .position)) (B .muts .site) w
+      held-unlined = subst (λ x. Unlined x held (length (T .sites .position)) (B .muts .site) w) (sym et) (subst (λ x. Unlined (allTimes T B) x (length (T .sites .position)) (B .muts .site) w) (sym held-is) (subst (λ x. Unlined (allTimes T B) joint (length (T .sites .position)) (B .muts .site) x) (sym ew) joint-unlined))
+
+      pub held-26 : (x : ℕ) → x ≡ lowest (overtaken held (T .sites .position) (B .muts .site) w) (length (B .muts .site)) → x ≡ lowest (mutationAbove (edgesWith T B) (T .sites .position) (λ b. b) (B .muts)) (length (B .muts .site))
+      held-26 x e = e ∙ ap₂ (λ E v. lowest (overtaken E (T .sites .position) (B .muts .site) v) (length (B .muts .site))) held-is ew ∙ rule-26

@@ -6,7 +6,7 @@ use Prim.Native.Nat.{ℕ, _+_, _<_, _≤_}
 use lib.ListN.{length}
 use Rattle.meaning.specs.Words.{at, mem, indexOf}
 use Rattle.meaning.specs.Rows.{EdgeColumns, MutationColumns, Tables}
-use Rattle.meaning.specs.Answer.{limits}
+use Rattle.meaning.specs.Answer.{limits, put}
 use Rattle.meaning.specs.Join.{BatchTables}
 use Rattle.bridge.specs.Columns.{Apart}
 use Rattle.ancestry.specs.Column.{Rising}
@@ -51,3 +51,20 @@ pub record Joint (L : ℕ) (T : Tables) (B : BatchTables) : Type 0 where
   pub rising : Rising (T .nodes .time) (T .edges)
   pub even : EvenEdges (B .edges)
   pub edge : (i : ℕ) → i < length (B .edges .left) → BatchEdgeRight L (T .nodes) (B .nodes) (B .edges) i
+
+-- ---- the joint edges in lent columns
+
+-- so many columns have room
+pub record JointRoom (base birth : List ℕ) (E F out : EdgeColumns) : Type 0 where
+  pub nodes : length base + length birth ≤ limits .nodes
+  pub left : length (E .left) + length (F .left) ≤ length (out .left)
+  pub right : length (E .right) + length (F .right) ≤ length (out .right)
+  pub parent : length (E .parent) + length (F .parent) ≤ length (out .parent)
+  pub child : length (E .child) + length (F .child) ≤ length (out .child)
+
+-- the columns have the edges at their front
+pub record JointPut (E old out : EdgeColumns) : Type 0 where
+  pub left : out .left ≡ put (E .left) (old .left)
+  pub right : out .right ≡ put (E .right) (old .right)
+  pub parent : out .parent ≡ put (E .parent) (old .parent)
+  pub child : out .child ≡ put (E .child) (old .child)

@@ -2,3 +2,4 @@
 pub mod Lengths
 pub mod Marked
 pub mod Joint
+pub mod Asked

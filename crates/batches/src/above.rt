@@ -7,6 +7,13 @@ ghost use Rattle.ancestry.specs.Column.{parOf};
 ghost use Rattle.ancestry.specs.Marks.{Upward};
 ghost use Rattle.ancestry.specs.Overtaken.{overtaken};
 ghost use Rattle.batches.specs.Marked.{Markers, MarkedBy, Unlined};
+ghost use Rattle.batches.specs.Asked.{Above};
+ghost use mathlib.Core.List.{[], _++_};
+ghost use Rattle.meaning.specs.Rows.{edgesOf};
+ghost use Rattle.meaning.specs.Check.{mutationAbove};
+use meaning::EdgeTable;
+use meaning::MutationTable;
+use meaning::NodeTable;
 
 // Marks the proper ancestors of the node of mutation j, where that is at site row s.
 fn mark_one(
@@ -94,4 +101,64 @@ pub fn lowest_overtaken(
         i += 1;
     }
     site.len()
+}
+
+// 26: the lowest batch mutation that is above an earlier one of its site, by the edges of base and batch.
+pub fn first_batch_above(
+    basetime: &[u32],
+    basebirth: &[u32],
+    baseleft: &[u32],
+    baseright: &[u32],
+    baseparent: &[u32],
+    basechild: &[u32],
+    position: &[u32],
+    time: &[u32],
+    birth: &[u32],
+    left: &[u32],
+    right: &[u32],
+    parent: &[u32],
+    child: &[u32],
+    site: &[u32],
+    node: &[u32],
+) -> usize
+    requires { ⌜ Above (now basetime) (now basebirth) (record { left = now baseleft; right = now baseright; parent = now baseparent; child = now basechild }) (now position) (now time) (now birth) (record { left = now left; right = now right; parent = now parent; child = now child }) (now site) (now node) ⌝ }
+    ensures { λ r. ⌜ r ≡ lowest (mutationAbove (edgesOf (at (now (basebirth .entry))) (record { left = now (baseleft .entry); right = now (baseright .entry); parent = now (baseparent .entry); child = now (basechild .entry) }) ++ edgesOf (λ b. b) (record { left = now (left .entry); right = now (right .entry); parent = now (parent .entry); child = now (child .entry) })) (now (position .entry)) (λ b. b) (record { site = now (site .entry); node = now (node .entry); derived = [] })) (length (now (site .entry))) ⌝ }
+{
+    let mut alltime = [0u32; NodeTable::MOST];
+    let mut allleft = [0u32; EdgeTable::MOST];
+    let mut allright = [0u32; EdgeTable::MOST];
+    let mut allparent = [0u32; EdgeTable::MOST];
+    let mut allchild = [0u32; EdgeTable::MOST];
+    let mut noderow = [0u32; MutationTable::MOST];
+    let n = basetime.len() + time.len();
+    let m = baseleft.len() + left.len();
+    let k = node.len();
+    crate::columns::append(basetime, time, &mut alltime);
+    crate::columns::joint_columns(
+        basebirth,
+        birth,
+        baseleft,
+        baseright,
+        baseparent,
+        basechild,
+        left,
+        right,
+        parent,
+        child,
+        &mut allleft,
+        &mut allright,
+        &mut allparent,
+        &mut allchild,
+    );
+    crate::columns::rows_of(basebirth, birth, node, &mut noderow);
+    lowest_overtaken(
+        &alltime[..n],
+        &allleft[..m],
+        &allright[..m],
+        &allparent[..m],
+        &allchild[..m],
+        position,
+        site,
+        &noderow[..k],
+    )
 }

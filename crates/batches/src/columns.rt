@@ -6,6 +6,7 @@ ghost use lib.ListN.{length};
 ghost use Rattle.meaning.specs.Words.{at, indexOf};
 ghost use Rattle.meaning.specs.Answer.{put, limits};
 ghost use Rattle.order.specs.Order.{Inside};
+ghost use Rattle.batches.specs.Joint.{rowsIn, jointEdges, JointRoom, JointPut};
 
 // Cell i of a column and a second one after it.
 fn joined_cell(a: &[u32], b: &[u32], i: usize) -> u32
@@ -116,4 +117,38 @@ pub fn gather_bytes(src: &[u8], idx: &[u32], out: &mut [u8])
         out[i] = src[k];
         i += 1;
     }
+}
+
+// Puts the rows of the births that names has to the front of out.
+pub fn rows_of(base: &[u32], birth: &[u32], names: &[u32], out: &mut [u32])
+    requires { ⌜ (length (now names) ≤ length (now out)) × (length (now base) + length (now birth) ≤ limits .nodes) ⌝ }
+    ensures { λ _. ⌜ now (out .exit) ≡ put (rowsIn (now (base .entry) ++ now (birth .entry)) (now (names .entry))) (now (out .entry)) ⌝ }
+{
+    append_rows(&names[..0], base, birth, names, out);
+}
+
+// Puts the base's edges and after them the batch's, by rows, to the front of four columns.
+pub fn joint_columns(
+    basebirth: &[u32],
+    birth: &[u32],
+    baseleft: &[u32],
+    baseright: &[u32],
+    baseparent: &[u32],
+    basechild: &[u32],
+    left: &[u32],
+    right: &[u32],
+    parent: &[u32],
+    child: &[u32],
+    outleft: &mut [u32],
+    outright: &mut [u32],
+    outparent: &mut [u32],
+    outchild: &mut [u32],
+)
+    requires { ⌜ JointRoom (now basebirth) (now birth) (record { left = now baseleft; right = now baseright; parent = now baseparent; child = now basechild }) (record { left = now left; right = now right; parent = now parent; child = now child }) (record { left = now outleft; right = now outright; parent = now outparent; child = now outchild }) ⌝ }
+    ensures { λ _. ⌜ JointPut (jointEdges (now (basebirth .entry) ++ now (birth .entry)) (record { left = now (baseleft .entry); right = now (baseright .entry); parent = now (baseparent .entry); child = now (basechild .entry) }) (record { left = now (left .entry); right = now (right .entry); parent = now (parent .entry); child = now (child .entry) })) (record { left = now (outleft .entry); right = now (outright .entry); parent = now (outparent .entry); child = now (outchild .entry) }) (record { left = now (outleft .exit); right = now (outright .exit); parent = now (outparent .exit); child = now (outchild .exit) }) ⌝ }
+{
+    append(baseleft, left, outleft);
+    append(baseright, right, outright);
+    append_rows(baseparent, basebirth, birth, parent, outparent);
+    append_rows(basechild, basebirth, birth, child, outchild);
 }
