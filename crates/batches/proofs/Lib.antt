@@ -5,3 +5,4 @@ pub mod Fronts
 pub mod Marking
 pub mod Together
 pub mod Reading
+pub mod Found

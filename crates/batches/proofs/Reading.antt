@@ -116,10 +116,10 @@ module _ (L : ℕ) (T : Tables) (B : BatchTables) (j : Joint L T B) where
     -- 26 by rows is 26 by births
     pub rule-26 : lowest (overtaken joint (T .sites .position) (B .muts .site) (rowsIn all (B .muts .node))) (length (B .muts .site)) ≡ lowest (mutationAbove (edgesWith T B) (T .sites .position) (λ b. b) (B .muts)) (length (B .muts .site))
     rule-26 = sym (
-      lowest-same (mutationAbove (edgesWith T B) (T .sites .position) (λ b. b) (B .muts)) (mutationAbove (edgesOf (at all) joint) (T .sites .position) (at all) byRow) (length (B .muts .site)) same-above
-      ∙ births-lowest-10 all joint (all-once L T B j) (record { parent-row = λ e h. omega (arith, joint-parent-row L T B j e h, all-long L T B j); child-row = λ e h. omega (arith, joint-child-row L T B j e h, all-long L T B j) }) (T .sites .position) byRow batch-node-row
-      ∙ sym (lowest-10 joint (T .sites .position) byRow (length (B .muts .site)))
-    )
+        lowest-same (mutationAbove (edgesWith T B) (T .sites .position) (λ b. b) (B .muts)) (mutationAbove (edgesOf (at all) joint) (T .sites .position) (at all) byRow) (length (B .muts .site)) same-above
+        ∙ births-lowest-10 all joint (all-once L T B j) (record { parent-row = λ e h. omega (arith, joint-parent-row L T B j e h, all-long L T B j); child-row = λ e h. omega (arith, joint-child-row L T B j e h, all-long L T B j) }) (T .sites .position) byRow batch-node-row
+        ∙ sym (lowest-10 joint (T .sites .position) byRow (length (B .muts .site)))
+        )
 
     -- ---- of columns that hold the same
 

@@ -8,6 +8,9 @@ use Rattle.meaning.specs.Words.{at, mem}
 use Rattle.meaning.specs.Rows.{EdgeColumns, Tables}
 use Rattle.meaning.specs.Answer.{limits}
 use Rattle.meaning.specs.Join.{BatchTables}
+use Rattle.bridge.specs.Columns.{Apart}
+use Rattle.ancestry.specs.Column.{Rising}
+use Rattle.accepted.specs.Batches.{BatchShaped}
 use Rattle.batches.specs.Joint.{Joint}
 
 -- base and batch with the columns that rule 26 reads
@@ -25,3 +28,13 @@ pub record Above (basetime basebirth : List ℕ) (D : EdgeColumns) (position tim
   pub node-long : length node ≡ length site
   pub site-row : (i : ℕ) → i < length site → at site i < length position
   pub node-in : (i : ℕ) → i < length site → mem (at node i) birth ≡ true
+
+-- what 22 to 26 ask of a base that 1 to 10 have passed and a batch that 20 and 21 have
+pub record BatchAsked (T : Tables) (B : BatchTables) : Type 0 where
+  pub base-long : length (T .nodes .birth) ≡ length (T .nodes .time)
+  pub base-once : Apart (T .nodes .birth)
+  pub rising : Rising (T .nodes .time) (T .edges)
+  pub shaped : BatchShaped B
+  pub few : length (T .nodes .time) + length (B .nodes .time) ≤ limits .nodes
+  pub edges : length (T .edges .left) + length (B .edges .left) ≤ limits .edges
+  pub mutations : length (B .muts .site) ≤ limits .mutations

@@ -6,3 +6,4 @@ pub mod mutations; // rule 25
 pub mod lengths; // rules 20 and 21: numbers alone
 pub mod columns; // columns put together
 pub mod above; // rule 26
+pub mod whole; // 20 to 26 in their order
