@@ -1,0 +1,2 @@
+-- The order of a join's rules.
+pub mod Groups

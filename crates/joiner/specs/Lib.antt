@@ -1,0 +1,2 @@
+-- What the checks of a batch ask of the base.
+pub mod Asked

@@ -1,0 +1,2 @@
+// Joining a batch: the checks of base and batch.
+pub mod checks; // 1 to 10 of the base, then 20 to 26 of the batch
