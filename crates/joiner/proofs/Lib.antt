@@ -1,2 +1,3 @@
--- The order of a join's rules.
+-- The order of a join's rules, and the sort of its edges.
 pub mod Groups
+pub mod Keys

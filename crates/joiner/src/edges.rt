@@ -1,0 +1,87 @@
+// The edges of a join in key order: a column of rows is sorted, and each column is written by it.
+ghost use mathlib.Core.Path.{_≡_};
+ghost use lib.ListN.{length};
+ghost use Rattle.batches.specs.Joint.{JointPut};
+ghost use Rattle.joiner.specs.Sorting.{edgeOrder, edgesIn, Sortable, EdgeRoom};
+use meaning::EdgeTable;
+
+// Fills idx with the rows of the edges in key order.
+fn sort_edges(
+    time: &[u32],
+    birth: &[u32],
+    left: &[u32],
+    right: &[u32],
+    parent: &[u32],
+    child: &[u32],
+    idx: &mut [u32],
+)
+    requires { ⌜ Sortable (record { time = now time; birth = now birth }) (record { left = now left; right = now right; parent = now parent; child = now child }) × (length (now idx) ≡ length (now left)) ⌝ }
+    ensures { λ _. ⌜ now (idx .exit) ≡ edgeOrder (record { time = now (time .entry); birth = now (birth .entry) }) (record { left = now (left .entry); right = now (right .entry); parent = now (parent .entry); child = now (child .entry) }) ⌝ }
+{
+    let mut k0 = [0u32; EdgeTable::MOST];
+    let mut k1 = [0u32; EdgeTable::MOST];
+    let mut k2 = [0u32; EdgeTable::MOST];
+    let n = left.len();
+    batches::columns::gather(time, parent, &mut k0);
+    batches::columns::gather(birth, parent, &mut k1);
+    batches::columns::gather(birth, child, &mut k2);
+    order::iota(idx);
+    order::sort_rows(&k0[..n], &k1[..n], &k2[..n], left, idx);
+}
+
+// Writes the edges in key order; idx is a working column with a cell for each edge.
+fn edges_by(
+    time: &[u32],
+    birth: &[u32],
+    left: &[u32],
+    right: &[u32],
+    parent: &[u32],
+    child: &[u32],
+    idx: &mut [u32],
+    outleft: &mut [u32],
+    outright: &mut [u32],
+    outparent: &mut [u32],
+    outchild: &mut [u32],
+)
+    requires { ⌜ Sortable (record { time = now time; birth = now birth }) (record { left = now left; right = now right; parent = now parent; child = now child }) × (length (now idx) ≡ length (now left)) × EdgeRoom (length (now left)) (record { left = now outleft; right = now outright; parent = now outparent; child = now outchild }) ⌝ }
+    ensures { λ _. ⌜ JointPut (edgesIn (edgeOrder (record { time = now (time .entry); birth = now (birth .entry) }) (record { left = now (left .entry); right = now (right .entry); parent = now (parent .entry); child = now (child .entry) })) (record { left = now (left .entry); right = now (right .entry); parent = now (parent .entry); child = now (child .entry) })) (record { left = now (outleft .entry); right = now (outright .entry); parent = now (outparent .entry); child = now (outchild .entry) }) (record { left = now (outleft .exit); right = now (outright .exit); parent = now (outparent .exit); child = now (outchild .exit) }) ⌝ }
+{
+    sort_edges(time, birth, left, right, parent, child, idx);
+    batches::columns::gather(left, idx, outleft);
+    batches::columns::gather(right, idx, outright);
+    batches::columns::gather(parent, idx, outparent);
+    batches::columns::gather(child, idx, outchild);
+}
+
+// Writes the edges in key order to the front of four columns.
+pub fn write_edges(
+    time: &[u32],
+    birth: &[u32],
+    left: &[u32],
+    right: &[u32],
+    parent: &[u32],
+    child: &[u32],
+    outleft: &mut [u32],
+    outright: &mut [u32],
+    outparent: &mut [u32],
+    outchild: &mut [u32],
+)
+    requires { ⌜ Sortable (record { time = now time; birth = now birth }) (record { left = now left; right = now right; parent = now parent; child = now child }) × EdgeRoom (length (now left)) (record { left = now outleft; right = now outright; parent = now outparent; child = now outchild }) ⌝ }
+    ensures { λ _. ⌜ JointPut (edgesIn (edgeOrder (record { time = now (time .entry); birth = now (birth .entry) }) (record { left = now (left .entry); right = now (right .entry); parent = now (parent .entry); child = now (child .entry) })) (record { left = now (left .entry); right = now (right .entry); parent = now (parent .entry); child = now (child .entry) })) (record { left = now (outleft .entry); right = now (outright .entry); parent = now (outparent .entry); child = now (outchild .entry) }) (record { left = now (outleft .exit); right = now (outright .exit); parent = now (outparent .exit); child = now (outchild .exit) }) ⌝ }
+{
+    let mut idx = [0u32; EdgeTable::MOST];
+    let n = left.len();
+    edges_by(
+        time,
+        birth,
+        left,
+        right,
+        parent,
+        child,
+        &mut idx[..n],
+        outleft,
+        outright,
+        outparent,
+        outchild,
+    );
+}
