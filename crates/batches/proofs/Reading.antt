@@ -42,7 +42,7 @@ module _ (L : ℕ) (T : Tables) (B : BatchTables) (j : Joint L T B) where
       (ap (at all) (base-parent L T B j i h) ∙ get-left 0 (T .nodes .birth) (B .nodes .birth) (at (T .edges .parent) i) (omega (arith, j .rising .parent-row i h, j .base-long)))
       (ap (at all) (base-child L T B j i h) ∙ get-left 0 (T .nodes .birth) (B .nodes .birth) (at (T .edges .child) i) (omega (arith, j .rising .child-row i h, j .base-long)))
 
-  batch-edge : (i : ℕ) → length (T .edges .left) ≤ i → i < length (joint .left) → edgeRow (at all) joint i ≡ edgeRow (λ b. b) (B .edges) (i - length (T .edges .left))
+  pub batch-edge : (i : ℕ) → length (T .edges .left) ≤ i → i < length (joint .left) → edgeRow (at all) joint i ≡ edgeRow (λ b. b) (B .edges) (i - length (T .edges .left))
   batch-edge i h l =
       let k : i - length (T .edges .left) < length (B .edges .left) = omega (arith, joint-rows L T B j) in
       let e : _ = j .rising .even in

@@ -53,6 +53,10 @@ module _ (L : ℕ) (T : Tables) (B : BatchTables) (j : Joint L T B) where
   base-apart : (u v : ℕ) → u < length (T .nodes .birth) → v < length (B .nodes .birth) → at (T .nodes .birth) u ≡ at (B .nodes .birth) v → ⊥
   base-apart u v k l e = clash (subst (λ b. mem b (T .nodes .birth) ≡ true) e (at-mem (T .nodes .birth) u k)) (j .fresh v l)
 
+  -- a birth of the batch is none of the base's
+  pub fresh-name : (b : ℕ) → mem b (B .nodes .birth) ≡ true → mem b (T .nodes .birth) ≡ false
+  fresh-name b m = subst (λ x. mem x (T .nodes .birth) ≡ false) (index-at b (B .nodes .birth) m) (j .fresh (indexOf b (B .nodes .birth)) (index-below b (B .nodes .birth) m))
+
   -- no birth of base or batch stands twice
   pub all-once : Apart all
   all-once u v k l e = go (before u n) (before v n)
