@@ -2,3 +2,4 @@
 pub mod Groups
 pub mod Keys
 pub mod Ordered
+pub mod Written
