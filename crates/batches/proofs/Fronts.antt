@@ -1,0 +1,105 @@
+-- A list put to the front of a column cell by cell, and the cells of joined and mapped columns.
+use mathlib.Core.Path.{_≡_, refl, sym, ap, ap₂, _∙_}
+use mathlib.Core.List.{List, [], _∷_, _++_, map}
+use Prim.Native.Nat.{ℕ, zero, suc, _+_, _<_, _≤_, _-_}
+use native.Mathlib.Nat.{not-suc-le-zero, le-of-suc-le-suc}
+use native.Mathlib.Omega.{arith}
+use native.Mathlib.Numerals.{add-one}
+use lib.ListN.{length, getD, take, drop, set, length-append, length-take, length-drop, List·getD-append, length-set, length-map}
+use lib.Seq.{take-at}
+use Rattle.meaning.specs.Words.{at}
+use Rattle.meaning.specs.Answer.{put}
+
+-- ---- a column filled from the front
+
+-- one more cell
+one-more : (s o : List ℕ) (i : ℕ) → i < length s → i < length o → set (take i s ++ drop i o) i (getD s i 0) ≡ take (suc i) s ++ drop (suc i) o
+one-more [] o i h k = absurd (not-suc-le-zero h)
+one-more (x ∷ s) [] i h k = absurd (not-suc-le-zero k)
+one-more (x ∷ s) (y ∷ o) zero h k = refl
+one-more (x ∷ s) (y ∷ o) (suc i) h k = ap (λ (r : List ℕ). x ∷ r) (one-more s o i (le-of-suc-le-suc h) (le-of-suc-le-suc k))
+
+take-whole : {A : Type 0} (l : List A) → take (length l) l ≡ l
+take-whole [] = refl
+take-whole (a ∷ l) = ap (λ r. a ∷ r) (take-whole l)
+
+-- after i cells
+pub record Front (l old : List ℕ) (i : ℕ) (out : List ℕ) : Type 0 where
+  pub long : length out ≡ length old
+  pub cells : out ≡ take i l ++ drop i old
+
+pub front-none : (l old : List ℕ) → Front l old 0 old
+front-none l old = record { long = refl; cells = refl }
+
+pub front-more : (l old : List ℕ) (i : ℕ) (out : List ℕ) (v : ℕ) → i < length l → i < length old → v ≡ at l i → Front l old i out → Front l old (i + 1) (set out i v)
+front-more l old i out v h k e f = record {
+  long = length-set out i v ∙ f .long;
+  cells = ap (λ o. set o i v) (f .cells) ∙ ap (set (take i l ++ drop i old) i) e ∙ one-more l old i h k ∙ rw add-one;
+}
+
+pub front-whole : (l old : List ℕ) (i : ℕ) (out : List ℕ) → i ≡ length l → Front l old i out → out ≡ put l old
+unfolding put
+front-whole l old i out e f = f .cells ∙ ap (λ k. take k l ++ drop k old) e ∙ ap (λ r. r ++ drop (length l) old) (take-whole l)
+
+-- ---- joined columns
+
+module _ {A : Type 0} (d : A) (a b : List A) (i : ℕ) where
+  pub get-left : i < length a → getD (a ++ b) i d ≡ getD a i d
+  get-left h = List·getD-append a b d i h
+
+  pub get-right : length a ≤ i → getD (a ++ b) i d ≡ getD b (i - length a) d
+  get-right h = go a i h
+    where
+      go : (a : List A) (i : ℕ) → length a ≤ i → getD (a ++ b) i d ≡ getD b (i - length a) d
+      go [] i h = let q : i ≡ i - 0 = omega arith in ap (λ k. getD b k d) q
+      go (x ∷ a) zero h = absurd (omega arith)
+      go (x ∷ a) (suc i) h = let q : i - length a ≡ suc i - length (x ∷ a) = omega arith in go a i (omega arith) ∙ ap (λ k. getD b k d) q
+
+-- ---- mapped columns
+
+pub get-map : {A B : Type 0} (f : A → B) (l : List A) (i : ℕ) (d : A) (e : B) → i < length l → getD (map f l) i e ≡ f (getD l i d)
+get-map f [] i d e h = absurd (omega arith)
+get-map f (a ∷ l) zero d e h = refl
+get-map f (a ∷ l) (suc i) d e h = get-map f l i d e (omega arith)
+
+-- ---- a column with a list at its front
+
+module _ (l old : List ℕ) (h : length l ≤ length old) where
+  pub put-long : length (put l old) ≡ length old
+  unfolding put
+  put-long = simp (length-append, length-drop) (omega arith)
+
+  pub put-cell : (i : ℕ) → i < length l → at (put l old) i ≡ at l i
+  unfolding put
+  put-cell i k = get-left 0 l (drop (length l) old) i k
+
+  pub put-front : take (length l) (put l old) ≡ l
+  unfolding put
+  put-front = take-at l (drop (length l) old) (length l) refl
+
+-- ---- the cells that the loops write
+
+module _ (a b : List ℕ) (i : ℕ) where
+  pub first-cell : i < length a → at a i ≡ at (a ++ b) i
+  first-cell h = sym (get-left 0 a b i h)
+
+  pub second-cell : length a ≤ i → at b (i - length a) ≡ at (a ++ b) i
+  second-cell h = sym (get-right 0 a b i h)
+
+pub mapped-cell : (rows names : List ℕ) (f : ℕ → ℕ) (i : ℕ) → i < length rows + length names → length rows ≤ i → f (at names (i - length rows)) ≡ at (rows ++ map f names) i
+mapped-cell rows names f i h k = sym (get-right 0 rows (map f names) i k ∙ get-map f names (i - length rows) 0 0 (omega arith))
+
+pub length-mapped : (rows names : List ℕ) (f : ℕ → ℕ) → length (rows ++ map f names) ≡ length rows + length names
+length-mapped rows names f = length-append rows (map f names) ∙ ap (λ n. length rows + n) (length-map names f)
+
+-- ---- the front of a column, lent as a part
+
+module _ (l old out : List ℕ) (n : ℕ) (e : out ≡ put l old) (h : length l ≤ length old) (q : n ≡ length l) where
+  pub part-room : n ≤ length out
+  part-room = omega (arith, ap length e ∙ put-long l old h)
+
+  pub part : take n out ≡ l
+  part = ap₂ take q e ∙ put-front l old h
+
+  pub part-long : n ≡ length (take n out)
+  part-long = sym (ap length part ∙ sym q)

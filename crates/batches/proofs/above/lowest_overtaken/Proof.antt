@@ -1,0 +1,50 @@
+-- `lowest_overtaken` meets its contract: no mutation before the one looked at is above an earlier one.
+use borrow.Author.Needs.{needs}
+use Rattle.batches.proofs.above.lowest_overtaken.Statement.{statement}
+use Rattle.batches.proofs.above.lowest_overtaken.Tie as tie
+use mathlib.Core.Path.{_≡_, sym, _∙_}
+use Prim.Native.Nat.{_≤_, _-_}
+use lib.ListN.{length}
+use Rattle.ancestry.specs.Overtaken.{overtaken}
+use Rattle.laws.specs.Counting.{Sought, sought-start, sought-hit, sought-miss, sought-none}
+
+abbrev Inv-loop : tie.InvT-loop
+Inv-loop time left right parent child position site node i₀ i = (i ≤ length site) × Sought (overtaken (record { left = left; right = right; parent = parent; child = child }) position site node) (length site) i
+
+abbrev μ-loop : tie.MeasureT-loop
+μ-loop time left right parent child position site node i₀ i = length site - i
+
+loop-holds : tie.Need-loop-holds Inv-loop μ-loop
+loop-holds c = (search needs, sought-start _ _)
+
+above-at-requires : tie.Need-above-at-requires Inv-loop μ-loop
+above-at-requires c κs = (c .before .before .before .before .before .before .before .before .before .before .pre, c .loop-test .taken)
+
+returns : tie.Need-returns Inv-loop μ-loop
+returns c = sought-hit _ _ _ (c .before .before .loop-test .taken) (c .before .before .before .loop .inv .1) (sym (c .before .above-at .ensures) ∙ c .if1 .taken)
+
+add-i : tie.Need-add-i Inv-loop μ-loop
+add-i c = search needs
+
+loop-less : tie.Need-loop-less Inv-loop μ-loop
+loop-less c = search needs
+
+loop-again : tie.Need-loop-again Inv-loop μ-loop
+loop-again c = (search needs, sought-miss _ _ _ (c .before .before .loop-test .taken) (c .before .before .before .loop .inv .1) (sym (c .before .above-at .ensures) ∙ c .if1 .left))
+
+returns-2 : tie.Need-returns-2 Inv-loop μ-loop
+returns-2 c = sought-none _ _ _ (c .before .loop .inv .0) (c .loop-test .left) (c .before .loop .inv .1)
+
+pub lowest-overtaken-spec : {M : Type 1} → statement M
+lowest-overtaken-spec =
+    tie.close
+    (tie.spec
+    Inv-loop
+    μ-loop
+    loop-holds
+    above-at-requires
+    returns
+    add-i
+    loop-less
+    loop-again
+    returns-2)

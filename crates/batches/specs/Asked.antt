@@ -1,0 +1,40 @@
+-- What the search for rule 26 asks of base and batch: what 1 to 5 and 20 to 25 find.
+use mathlib.Core.Path.{_≡_}
+use mathlib.Core.Bool.{true}
+use mathlib.Core.List.{List, []}
+use Prim.Native.Nat.{ℕ, _+_, _<_, _≤_}
+use lib.ListN.{length}
+use Rattle.meaning.specs.Words.{at, mem}
+use Rattle.meaning.specs.Rows.{EdgeColumns, Tables}
+use Rattle.meaning.specs.Answer.{limits}
+use Rattle.meaning.specs.Join.{BatchTables}
+use Rattle.bridge.specs.Columns.{Apart}
+use Rattle.ancestry.specs.Column.{Rising}
+use Rattle.accepted.specs.Batches.{BatchShaped}
+use Rattle.batches.specs.Joint.{Joint}
+
+-- base and batch with the columns that rule 26 reads
+abbrev pub readBase : List ℕ → List ℕ → EdgeColumns → List ℕ → Tables
+readBase time birth E position = record { nodes = record { time = time; birth = birth }; edges = E; sites = record { position = position; ancestral = [] }; muts = record { site = []; node = []; derived = [] } }
+
+abbrev pub readBatch : List ℕ → List ℕ → EdgeColumns → List ℕ → List ℕ → BatchTables
+readBatch time birth E site node = record { nodes = record { time = time; birth = birth }; edges = E; muts = record { site = site; node = node; derived = [] } }
+
+pub record Above (basetime basebirth : List ℕ) (D : EdgeColumns) (position time birth : List ℕ) (E : EdgeColumns) (site node : List ℕ) : Type 0 where
+  pub len : ℕ
+  pub joint : Joint len (readBase basetime basebirth D position) (readBatch time birth E site node)
+  pub edges : length (D .left) + length (E .left) ≤ limits .edges
+  pub mutations : length site ≤ limits .mutations
+  pub node-long : length node ≡ length site
+  pub site-row : (i : ℕ) → i < length site → at site i < length position
+  pub node-in : (i : ℕ) → i < length site → mem (at node i) birth ≡ true
+
+-- what 22 to 26 ask of a base that 1 to 10 have passed and a batch that 20 and 21 have
+pub record BatchAsked (T : Tables) (B : BatchTables) : Type 0 where
+  pub base-long : length (T .nodes .birth) ≡ length (T .nodes .time)
+  pub base-once : Apart (T .nodes .birth)
+  pub rising : Rising (T .nodes .time) (T .edges)
+  pub shaped : BatchShaped B
+  pub few : length (T .nodes .time) + length (B .nodes .time) ≤ limits .nodes
+  pub edges : length (T .edges .left) + length (B .edges .left) ≤ limits .edges
+  pub mutations : length (B .muts .site) ≤ limits .mutations

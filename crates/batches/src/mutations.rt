@@ -1,0 +1,45 @@
+// Rule 25: the mutations of a batch by birth number.
+ghost use mathlib.Core.Path.{_≡_};
+ghost use Prim.Native.Nat.{_<_};
+ghost use lib.ListN.{length};
+ghost use Rattle.meaning.specs.Words.{lowest};
+ghost use Rattle.meaning.specs.Join.{batchMutation};
+
+// Whether batch mutation i names no site, or no batch node.
+fn batch_mutation_at(
+    sites: usize,
+    birth: &[u32],
+    site: &[u32],
+    node: &[u32],
+    derived: &[u8],
+    i: usize,
+) -> bool
+    requires { ⌜ (i < length (now site)) × (length (now node) ≡ length (now site)) ⌝ }
+    ensures { λ r. ⌜ r ≡ batchMutation sites (now (birth .entry)) (record { site = now (site .entry); node = now (node .entry); derived = now (derived .entry) }) i ⌝ }
+{
+    if sites <= site[i] as usize {
+        return true;
+    }
+    !rules::columns::has(birth, node[i])
+}
+
+// 25: the lowest such mutation. There are sites so many.
+pub fn first_batch_mutation(
+    sites: usize,
+    birth: &[u32],
+    site: &[u32],
+    node: &[u32],
+    derived: &[u8],
+) -> usize
+    requires { ⌜ length (now node) ≡ length (now site) ⌝ }
+    ensures { λ r. ⌜ r ≡ lowest (batchMutation sites (now (birth .entry)) (record { site = now (site .entry); node = now (node .entry); derived = now (derived .entry) })) (length (now (site .entry))) ⌝ }
+{
+    let mut i = 0;
+    while i < site.len() {
+        if batch_mutation_at(sites, birth, site, node, derived, i) {
+            return i;
+        }
+        i += 1;
+    }
+    site.len()
+}

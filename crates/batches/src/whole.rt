@@ -1,0 +1,120 @@
+// The rules 20 to 26 in their order.
+ghost use mathlib.Core.Path.{_≡_};
+ghost use mathlib.Core.List.{[]};
+ghost use Rattle.meaning.specs.Answer.{done, limits, checkedOf};
+ghost use Rattle.meaning.specs.Join.{batchRules};
+ghost use Rattle.rules.specs.Lengths.{refuseTable};
+ghost use Rattle.batches.specs.Lengths.{batchRagged, batchLarge};
+ghost use Rattle.batches.specs.Asked.{readBase, BatchAsked};
+use meaning::Checked;
+use meaning::Refusal;
+
+// 20 and 21 on lengths alone.
+pub fn lengths_checked(
+    basenodes: usize,
+    baseedges: usize,
+    basemutations: usize,
+    time: usize,
+    birth: usize,
+    left: usize,
+    right: usize,
+    parent: usize,
+    child: usize,
+    site: usize,
+    node: usize,
+    derived: usize,
+) -> Checked
+    ensures { λ r. ⌜ checkedOf r ≡ refuseTable 20 (batchRagged time birth left right parent child site node derived) (refuseTable 21 (batchLarge limits basenodes baseedges basemutations time left site) done) ⌝ }
+{
+    let t = crate::lengths::ragged_batch(
+        time,
+        birth,
+        left,
+        right,
+        parent,
+        child,
+        site,
+        node,
+        derived,
+    );
+    if t != 0 {
+        return Checked::Refused(Refusal::BatchRagged(t));
+    }
+    let m = crate::lengths::large_batch(basenodes, baseedges, basemutations, time, left, site);
+    if m != 0 {
+        return Checked::Refused(Refusal::BatchTooMany(m));
+    }
+    Checked::Sound
+}
+
+// 22 to 26, of a batch that is not ragged, over a base that is sound.
+pub fn rules_checked(
+    len: u32,
+    basetime: &[u32],
+    basebirth: &[u32],
+    baseleft: &[u32],
+    baseright: &[u32],
+    baseparent: &[u32],
+    basechild: &[u32],
+    position: &[u32],
+    time: &[u32],
+    birth: &[u32],
+    left: &[u32],
+    right: &[u32],
+    parent: &[u32],
+    child: &[u32],
+    site: &[u32],
+    node: &[u32],
+    derived: &[u8],
+) -> Checked
+    requires { ⌜ BatchAsked (readBase (now basetime) (now basebirth) (record { left = now baseleft; right = now baseright; parent = now baseparent; child = now basechild }) (now position)) (record { nodes = record { time = now time; birth = now birth }; edges = record { left = now left; right = now right; parent = now parent; child = now child }; muts = record { site = now site; node = now node; derived = now derived } }) ⌝ }
+    ensures { λ r. ⌜ checkedOf r ≡ batchRules len (readBase (now (basetime .entry)) (now (basebirth .entry)) (record { left = now (baseleft .entry); right = now (baseright .entry); parent = now (baseparent .entry); child = now (basechild .entry) }) (now (position .entry))) (record { nodes = record { time = now (time .entry); birth = now (birth .entry) }; edges = record { left = now (left .entry); right = now (right .entry); parent = now (parent .entry); child = now (child .entry) }; muts = record { site = now (site .entry); node = now (node .entry); derived = now (derived .entry) } }) done ⌝ }
+{
+    let b = crate::births::first_batch_birth(basebirth, birth);
+    if b < birth.len() {
+        return Checked::Refused(Refusal::BatchBirth(b));
+    }
+    let e = crate::edges::first_batch_edge(
+        len,
+        basetime,
+        basebirth,
+        time,
+        birth,
+        left,
+        right,
+        parent,
+        child,
+    );
+    if e < left.len() {
+        return Checked::Refused(Refusal::BatchEdge(e));
+    }
+    let s = rules::edges::first_shared(left, right, parent, child);
+    if s < left.len() {
+        return Checked::Refused(Refusal::BatchShared(s));
+    }
+    let m = crate::mutations::first_batch_mutation(position.len(), birth, site, node, derived);
+    if m < site.len() {
+        return Checked::Refused(Refusal::BatchMutation(m));
+    }
+    let a = crate::above::first_batch_above(
+        basetime,
+        basebirth,
+        baseleft,
+        baseright,
+        baseparent,
+        basechild,
+        position,
+        time,
+        birth,
+        left,
+        right,
+        parent,
+        child,
+        site,
+        node,
+    );
+    if a < site.len() {
+        return Checked::Refused(Refusal::BatchAbove(a));
+    }
+    Checked::Sound
+}

@@ -1,0 +1,139 @@
+// 1 to 10 of the base, then 20 to 26 of the batch.
+ghost use mathlib.Core.Path.{_≡_};
+ghost use lib.ListN.{length};
+ghost use Rattle.meaning.specs.Answer.{done, limits, checkedOf};
+ghost use Rattle.meaning.specs.Check.{checkThen};
+ghost use Rattle.meaning.specs.Join.{batchShapes, batchSizes, batchRules};
+ghost use Rattle.rules.specs.Lengths.{refuseTable};
+ghost use Rattle.batches.specs.Lengths.{batchRagged, batchLarge};
+ghost use Rattle.batches.specs.Asked.{readBase};
+ghost use Rattle.joiner.specs.Asked.{BaseAsked};
+use meaning::Checked;
+use meaning::Refusal;
+
+// 20 to 26 over a base that is sound and has mutations so many.
+fn batch_checked(
+    len: u32,
+    basetime: &[u32],
+    basebirth: &[u32],
+    baseleft: &[u32],
+    baseright: &[u32],
+    baseparent: &[u32],
+    basechild: &[u32],
+    position: &[u32],
+    basemutations: usize,
+    time: &[u32],
+    birth: &[u32],
+    left: &[u32],
+    right: &[u32],
+    parent: &[u32],
+    child: &[u32],
+    site: &[u32],
+    node: &[u32],
+    derived: &[u8],
+) -> Checked
+    requires { ⌜ BaseAsked (record { time = now basetime; birth = now basebirth }) (record { left = now baseleft; right = now baseright; parent = now baseparent; child = now basechild }) ⌝ }
+    ensures { λ r. ⌜ checkedOf r ≡ refuseTable 20 (batchRagged (length (now (time .entry))) (length (now (birth .entry))) (length (now (left .entry))) (length (now (right .entry))) (length (now (parent .entry))) (length (now (child .entry))) (length (now (site .entry))) (length (now (node .entry))) (length (now (derived .entry)))) (refuseTable 21 (batchLarge limits (length (now (basetime .entry))) (length (now (baseleft .entry))) basemutations (length (now (time .entry))) (length (now (left .entry))) (length (now (site .entry)))) (batchRules len (readBase (now (basetime .entry)) (now (basebirth .entry)) (record { left = now (baseleft .entry); right = now (baseright .entry); parent = now (baseparent .entry); child = now (basechild .entry) }) (now (position .entry))) (record { nodes = record { time = now (time .entry); birth = now (birth .entry) }; edges = record { left = now (left .entry); right = now (right .entry); parent = now (parent .entry); child = now (child .entry) }; muts = record { site = now (site .entry); node = now (node .entry); derived = now (derived .entry) } }) done)) ⌝ }
+{
+    let s = batches::whole::lengths_checked(
+        basetime.len(),
+        baseleft.len(),
+        basemutations,
+        time.len(),
+        birth.len(),
+        left.len(),
+        right.len(),
+        parent.len(),
+        child.len(),
+        site.len(),
+        node.len(),
+        derived.len(),
+    );
+    match s {
+        Checked::Refused(_) => s,
+        Checked::Sound => batches::whole::rules_checked(
+            len,
+            basetime,
+            basebirth,
+            baseleft,
+            baseright,
+            baseparent,
+            basechild,
+            position,
+            time,
+            birth,
+            left,
+            right,
+            parent,
+            child,
+            site,
+            node,
+            derived,
+        ),
+    }
+}
+
+// 1 to 10 of the base, then 20 to 26 of the batch: all of a join's answers but 13.
+pub fn check_join(
+    len: u32,
+    basetime: &[u32],
+    basebirth: &[u32],
+    baseleft: &[u32],
+    baseright: &[u32],
+    baseparent: &[u32],
+    basechild: &[u32],
+    position: &[u32],
+    ancestral: &[u8],
+    basesite: &[u32],
+    basenode: &[u32],
+    basederived: &[u8],
+    time: &[u32],
+    birth: &[u32],
+    left: &[u32],
+    right: &[u32],
+    parent: &[u32],
+    child: &[u32],
+    site: &[u32],
+    node: &[u32],
+    derived: &[u8],
+) -> Checked
+    ensures { λ r. ⌜ checkedOf r ≡ checkThen limits len (record { nodes = record { time = now (basetime .entry); birth = now (basebirth .entry) }; edges = record { left = now (baseleft .entry); right = now (baseright .entry); parent = now (baseparent .entry); child = now (basechild .entry) }; sites = record { position = now (position .entry); ancestral = now (ancestral .entry) }; muts = record { site = now (basesite .entry); node = now (basenode .entry); derived = now (basederived .entry) } }) (batchShapes (record { nodes = record { time = now (time .entry); birth = now (birth .entry) }; edges = record { left = now (left .entry); right = now (right .entry); parent = now (parent .entry); child = now (child .entry) }; muts = record { site = now (site .entry); node = now (node .entry); derived = now (derived .entry) } }) (batchSizes limits (record { nodes = record { time = now (basetime .entry); birth = now (basebirth .entry) }; edges = record { left = now (baseleft .entry); right = now (baseright .entry); parent = now (baseparent .entry); child = now (basechild .entry) }; sites = record { position = now (position .entry); ancestral = now (ancestral .entry) }; muts = record { site = now (basesite .entry); node = now (basenode .entry); derived = now (basederived .entry) } }) (record { nodes = record { time = now (time .entry); birth = now (birth .entry) }; edges = record { left = now (left .entry); right = now (right .entry); parent = now (parent .entry); child = now (child .entry) }; muts = record { site = now (site .entry); node = now (node .entry); derived = now (derived .entry) } }) (batchRules len (record { nodes = record { time = now (basetime .entry); birth = now (basebirth .entry) }; edges = record { left = now (baseleft .entry); right = now (baseright .entry); parent = now (baseparent .entry); child = now (basechild .entry) }; sites = record { position = now (position .entry); ancestral = now (ancestral .entry) }; muts = record { site = now (basesite .entry); node = now (basenode .entry); derived = now (basederived .entry) } }) (record { nodes = record { time = now (time .entry); birth = now (birth .entry) }; edges = record { left = now (left .entry); right = now (right .entry); parent = now (parent .entry); child = now (child .entry) }; muts = record { site = now (site .entry); node = now (node .entry); derived = now (derived .entry) } }) done))) ⌝ }
+{
+    let t = checker::check_tables(
+        len,
+        basetime,
+        basebirth,
+        baseleft,
+        baseright,
+        baseparent,
+        basechild,
+        position,
+        ancestral,
+        basesite,
+        basenode,
+        basederived,
+    );
+    match t {
+        Checked::Refused(_) => t,
+        Checked::Sound => batch_checked(
+            len,
+            basetime,
+            basebirth,
+            baseleft,
+            baseright,
+            baseparent,
+            basechild,
+            position,
+            basesite.len(),
+            time,
+            birth,
+            left,
+            right,
+            parent,
+            child,
+            site,
+            node,
+            derived,
+        ),
+    }
+}
