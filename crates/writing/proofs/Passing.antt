@@ -102,7 +102,7 @@ module _ (low : List ℕ) where
     front = p ∙ g .front ∙ ap (λ z. put z old) (sym (moved-miss u e));
   }
 
-  pub gather-all : (old out : List ℕ) (k u : ℕ) → u ≤ length low → length low ≤ u → Gathered old out k u → (k ≡ length (movedAt low (length low))) × (out ≡ put (movedAt low (length low)) old)
-  gather-all old out k u a b g =
-      let q : u ≡ length low = omega arith in
+  pub gather-all : (n : ℕ) (old out : List ℕ) (k u : ℕ) → u ≤ n → n ≤ u → Gathered old out k u → (k ≡ length (movedAt low n)) × (out ≡ put (movedAt low n) old)
+  gather-all n old out k u a b g =
+      let q : u ≡ n = omega arith in
       (g .counted ∙ ap (λ z. length (movedAt low z)) q, g .front ∙ ap (λ z. put (movedAt low z) old) q)

@@ -47,25 +47,25 @@ pub fn gather_states(src: &[u8], rows: &[u32], k: usize, out: &mut [u8])
     }
 }
 
-// A whole column, to the front of out.
-pub fn copy(src: &[u32], out: &mut [u32])
-    requires { ⌜ length (now src) ≤ length (now out) ⌝ }
-    ensures { λ _. ⌜ now (out .exit) ≡ put (now (src .entry)) (now (out .entry)) ⌝ }
+// The first k cells of a column, to the front of out.
+pub fn copy(src: &[u32], k: usize, out: &mut [u32])
+    requires { ⌜ (k ≤ length (now src)) × (k ≤ length (now out)) ⌝ }
+    ensures { λ _. ⌜ now (out .exit) ≡ put (take k (now (src .entry))) (now (out .entry)) ⌝ }
 {
     let mut i = 0;
-    while i < src.len() {
+    while i < k {
         out[i] = src[i];
         i += 1;
     }
 }
 
 // As copy, for states.
-pub fn copy_states(src: &[u8], out: &mut [u8])
-    requires { ⌜ length (now src) ≤ length (now out) ⌝ }
-    ensures { λ _. ⌜ now (out .exit) ≡ put (now (src .entry)) (now (out .entry)) ⌝ }
+pub fn copy_states(src: &[u8], k: usize, out: &mut [u8])
+    requires { ⌜ (k ≤ length (now src)) × (k ≤ length (now out)) ⌝ }
+    ensures { λ _. ⌜ now (out .exit) ≡ put (take k (now (src .entry))) (now (out .entry)) ⌝ }
 {
     let mut i = 0;
-    while i < src.len() {
+    while i < k {
         out[i] = src[i];
         i += 1;
     }
@@ -86,14 +86,14 @@ pub fn rename(names: &[u32], col: &mut [u32], k: usize)
     }
 }
 
-// The mutation rows whose cell is a row, in row order, to the front of out; how many they are.
-pub fn moved_rows(low: &[u32], out: &mut [u32]) -> usize
-    requires { ⌜ (length (now low) ≤ length (now out)) × (length (now low) ≤ 4294967295) ⌝ }
-    ensures { λ r. ⌜ (r ≡ length (movedAt (now (low .entry)) (length (now (low .entry))))) × (now (out .exit) ≡ put (movedAt (now (low .entry)) (length (now (low .entry)))) (now (out .entry))) ⌝ }
+// The mutation rows of the first n whose cell is a row, in row order, to the front of out; how many they are.
+pub fn moved_rows(low: &[u32], n: usize, out: &mut [u32]) -> usize
+    requires { ⌜ (n ≤ length (now low)) × (n ≤ length (now out)) × (n ≤ 4294967295) ⌝ }
+    ensures { λ r. ⌜ (r ≡ length (movedAt (now (low .entry)) n)) × (now (out .exit) ≡ put (movedAt (now (low .entry)) n) (now (out .entry))) ⌝ }
 {
     let mut k: usize = 0;
     let mut i: usize = 0;
-    while i < low.len() {
+    while i < n {
         if low[i] != MapTable::NONE {
             out[k] = i as u32;
             k += 1;

@@ -12,10 +12,10 @@ use Rattle.writing.proofs.moved_rows.Statement.{statement}
 use Rattle.writing.proofs.moved_rows.Tie as tie
 
 abbrev Inv-loop : tie.InvT-loop
-Inv-loop low out₀ k₀ i₀ out k i = (i ≤ length low) × Gathered low out₀ out k i
+Inv-loop low n out₀ k₀ i₀ out k i = (i ≤ n) × Gathered low out₀ out k i
 
 abbrev μ-loop : tie.MeasureT-loop
-μ-loop low out₀ k₀ i₀ out k i = length low - i
+μ-loop low n out₀ k₀ i₀ out k i = n - i
 
 loop-holds : tie.Need-loop-holds Inv-loop μ-loop
 loop-holds c = (search needs, gather-none (c .args .low .now) (c .args .out .now))
@@ -33,7 +33,7 @@ mul-out : tie.Need-mul-out Inv-loop μ-loop
 mul-out c = search needs
 
 slice-write-out : tie.Need-slice-write-out Inv-loop μ-loop
-slice-write-out c = omega (arith, c .before .before .before .loop .inv .1 .long, c .before .before .before .loop .inv .1 .few, c .before .before .before .before .pre .0)
+slice-write-out c = omega (arith, c .before .before .before .loop .inv .1 .long, c .before .before .before .loop .inv .1 .few, c .before .before .before .before .pre .1)
 
 add-k : tie.Need-add-k Inv-loop μ-loop
 add-k c = omega (arith, c .before .before .before .loop .inv .1 .few)
@@ -45,13 +45,13 @@ loop-less : tie.Need-loop-less Inv-loop μ-loop
 loop-less c = search needs
 
 loop-again : tie.Need-loop-again Inv-loop μ-loop
-loop-again c = (omega arith, ⊎-elim (λ w. gather-hit (c .before .before .before .before .args .low .now) (c .before .before .before .before .args .out .now) (c .before .before .before .loop .out) (c .if1 .out) (c .before .before .before .loop .k) (c .if1 .k) (c .before .before .before .loop .i) (omega (arith, c .before .before .before .before .pre .0)) (goes-yes (c .before .before .before .before .args .low .now) (c .before .before .before .loop .i) (w .0 .taken)) (w .1) (w .2) (c .before .before .before .loop .inv .1)) (λ w. gather-miss (c .before .before .before .before .args .low .now) (c .before .before .before .before .args .out .now) (c .before .before .before .loop .out) (c .if1 .out) (c .before .before .before .loop .k) (c .if1 .k) (c .before .before .before .loop .i) (goes-no (c .before .before .before .before .args .low .now) (c .before .before .before .loop .i) (w .0 .left)) (w .1) (w .2) (c .before .before .before .loop .inv .1)) (c .if1 .came))
+loop-again c = (omega arith, ⊎-elim (λ w. gather-hit (c .before .before .before .before .args .low .now) (c .before .before .before .before .args .out .now) (c .before .before .before .loop .out) (c .if1 .out) (c .before .before .before .loop .k) (c .if1 .k) (c .before .before .before .loop .i) (omega (arith, c .before .before .before .before .pre .1)) (goes-yes (c .before .before .before .before .args .low .now) (c .before .before .before .loop .i) (w .0 .taken)) (w .1) (w .2) (c .before .before .before .loop .inv .1)) (λ w. gather-miss (c .before .before .before .before .args .low .now) (c .before .before .before .before .args .out .now) (c .before .before .before .loop .out) (c .if1 .out) (c .before .before .before .loop .k) (c .if1 .k) (c .before .before .before .loop .i) (goes-no (c .before .before .before .before .args .low .now) (c .before .before .before .loop .i) (w .0 .left)) (w .1) (w .2) (c .before .before .before .loop .inv .1)) (c .if1 .came))
 
 same-length : tie.Need-same-length Inv-loop μ-loop
 same-length c = c .before .loop .inv .1 .long
 
 returns : tie.Need-returns Inv-loop μ-loop
-returns c = gather-all (c .before .before .args .low .now) (c .before .before .args .out .now) (c .before .loop .out) (c .before .loop .k) (c .before .loop .i) (c .before .loop .inv .0) (c .loop-test .left) (c .before .loop .inv .1)
+returns c = gather-all (c .before .before .args .low .now) (c .before .before .args .n) (c .before .before .args .out .now) (c .before .loop .out) (c .before .loop .k) (c .before .loop .i) (c .before .loop .inv .0) (c .loop-test .left) (c .before .loop .inv .1)
 
 pub moved-rows-spec : {M : Type 1} → statement M
 moved-rows-spec =
