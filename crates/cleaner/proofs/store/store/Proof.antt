@@ -1,0 +1,77 @@
+use native.Mathlib.Omega.{arith}
+use borrow.Author.Needs.{needs}
+use Rattle.cleaner.proofs.store.store.Statement.{statement}
+use Rattle.cleaner.proofs.store.store.Tie as tie
+use Rattle.cleaner.proofs.store.store.Reads as reads
+use Rattle.cleaner.proofs.store.store.Lts as lts
+use Rattle.cleaner.proofs.store.write_all.Reads as write-all-reads
+use Rattle.writing.proofs.no_room.Reads as no-room-reads
+
+no-room-requires : tie.Need-no-room-requires
+no-room-requires c κs = search needs
+
+returns : tie.Need-returns
+returns c = ?
+
+write-all-requires : tie.Need-write-all-requires
+write-all-requires c κs = ?
+
+same-length : tie.Need-same-length
+same-length c = search needs
+
+same-length-2 : tie.Need-same-length-2
+same-length-2 c = search needs
+
+same-length-3 : tie.Need-same-length-3
+same-length-3 c = search needs
+
+same-length-4 : tie.Need-same-length-4
+same-length-4 c = search needs
+
+same-length-5 : tie.Need-same-length-5
+same-length-5 c = search needs
+
+same-length-6 : tie.Need-same-length-6
+same-length-6 c = search needs
+
+same-length-7 : tie.Need-same-length-7
+same-length-7 c = search needs
+
+same-length-8 : tie.Need-same-length-8
+same-length-8 c = search needs
+
+same-length-9 : tie.Need-same-length-9
+same-length-9 c = search needs
+
+same-length-10 : tie.Need-same-length-10
+same-length-10 c = search needs
+
+same-length-11 : tie.Need-same-length-11
+same-length-11 c = search needs
+
+same-length-12 : tie.Need-same-length-12
+same-length-12 c = search needs
+
+returns-2 : tie.Need-returns-2
+returns-2 c = ?
+
+pub store-spec : {M : Type 1} → statement M
+store-spec =
+    tie.close
+    (tie.spec
+    no-room-requires
+    returns
+    write-all-requires
+    same-length
+    same-length-2
+    same-length-3
+    same-length-4
+    same-length-5
+    same-length-6
+    same-length-7
+    same-length-8
+    same-length-9
+    same-length-10
+    same-length-11
+    same-length-12
+    returns-2)
