@@ -1,1 +1,2 @@
 -- Laws of the cleaning call.
+pub mod Storing

@@ -34,6 +34,11 @@ pub record RoomFor (n : Needs) (l : Lent) : Type 0 where
   pub derived : n .mutations ≤ l .derived
   pub nodemap : n .rows ≤ l .nodemap
 
+-- no table lacks room where the code finds 0
+pub room-zero : (t : ℕ) (n : Needs) (l : Lent) → t ≡ 0 → roomOf t ≡ roomAnswer n l → roomAnswer n l ≡ done
+unfolding roomOf
+room-zero t n l z e = sym e ∙ ap roomOf z
+
 -- one table passed: its room, and what comes after
 table : (most room need t : ℕ) (rest : Answer) → Accepted (refuse (or (ltb most need) (ltb room need)) 13 t rest) → ((need ≤ most) × (need ≤ room)) × Accepted rest
 table most room need t rest h =
@@ -122,8 +127,9 @@ module _ (B : Base) (W : Work) (safe : Safe B W) (new : Tables) (newMap : List �
     stored-refused (suc t) n e = sym (ap (λ (a : Answer). ending a new newMap out outMap) (fit-answer out outMap ∙ sym e) ∙ ending-refused (answer 13 (suc t)) new newMap out outMap refl)
 
     -- all fits: the result stands at the front
-    pub stored-done : roomAnswer (needsIn B W) (lentBy out outMap) ≡ done → (out' : Tables) (outMap' : List ℕ) → Written B W out outMap out' outMap' → record { answer = done; counts = record { nodes = W .nodes; edges = W .edges; sites = length (B .position); mutations = W .mutations }; cells = out'; map = outMap' } ≡ ending (fitAnswer new newMap out outMap) new newMap out outMap
-    stored-done e out' outMap' w =
+    pub stored-done : (t : ℕ) → t ≡ 0 → roomOf t ≡ roomAnswer (needsIn B W) (lentBy out outMap) → (out' : Tables) (outMap' : List ℕ) → Written B W out outMap out' outMap' → record { answer = done; counts = record { nodes = W .nodes; edges = W .edges; sites = length (B .position); mutations = W .mutations }; cells = out'; map = outMap' } ≡ ending (fitAnswer new newMap out outMap) new newMap out outMap
+    stored-done t z f out' outMap' w =
+        let e : roomAnswer (needsIn B W) (lentBy out outMap) ≡ done = room-zero t (needsIn B W) (lentBy out outMap) z f in
         let l : W .edges ≤ limits .edges = room-for (needsIn B W) (lentBy out outMap) e .edges-few in
         sym (
             ap (λ (a : Answer). ending a new newMap out outMap) (fit-answer out outMap ∙ e)

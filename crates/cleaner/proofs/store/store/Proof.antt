@@ -1,20 +1,19 @@
+-- `cleaner::store::store` meets its contract: 13 before anything is written, or all is written.
+use mathlib.Core.Path.{sym, ap, _∙_}
+use Rattle.cleaner.specs.Fitting.{room-for, room-zero, stored-refused, stored-done}
 use native.Mathlib.Omega.{arith}
 use borrow.Author.Needs.{needs}
 use Rattle.cleaner.proofs.store.store.Statement.{statement}
 use Rattle.cleaner.proofs.store.store.Tie as tie
-use Rattle.cleaner.proofs.store.store.Reads as reads
-use Rattle.cleaner.proofs.store.store.Lts as lts
-use Rattle.cleaner.proofs.store.write_all.Reads as write-all-reads
-use Rattle.writing.proofs.no_room.Reads as no-room-reads
 
 no-room-requires : tie.Need-no-room-requires
 no-room-requires c κs = search needs
 
 returns : tie.Need-returns
-returns c = ?
+returns c = λ new newMap h. stored-refused _ _ (c .before .before .before .before .before .before .before .before .before .before .before .before .before .before .before .before .before .before .before .before .before .before .before .before .before .before .before .before .before .pre) new newMap h _ _ (c .before .no-room .result) (c .if1 .taken) (c .before .no-room .ensures)
 
 write-all-requires : tie.Need-write-all-requires
-write-all-requires c κs = ?
+write-all-requires c κs = (c .before .before .before .before .before .before .before .before .before .before .before .before .before .before .before .before .before .before .before .before .before .before .before .before .before .before .before .before .before .before .before .before .before .before .before .before .before .before .before .before .before .pre, room-for _ _ (room-zero (c .before .before .before .before .before .before .before .before .before .before .before .before .before .no-room .result) _ _ (c .before .before .before .before .before .before .before .before .before .before .before .before .if1 .left) (c .before .before .before .before .before .before .before .before .before .before .before .before .before .no-room .ensures)))
 
 same-length : tie.Need-same-length
 same-length c = search needs
@@ -53,7 +52,7 @@ same-length-12 : tie.Need-same-length-12
 same-length-12 c = search needs
 
 returns-2 : tie.Need-returns-2
-returns-2 c = ?
+returns-2 c = λ new newMap h. stored-done _ _ (c .before .before .before .before .before .before .before .before .before .before .before .before .before .before .before .before .before .before .before .before .before .before .before .before .before .before .before .before .before .before .before .before .before .before .before .before .before .before .before .before .before .before .before .before .before .before .before .before .before .before .before .before .before .before .before .before .before .before .before .before .before .before .before .before .before .before .pre) new newMap h _ _ (c .before .before .before .before .before .before .before .before .before .before .before .before .before .before .before .before .before .before .before .before .before .before .before .before .before .before .before .before .before .before .before .before .before .before .before .before .before .before .no-room .result) (c .before .before .before .before .before .before .before .before .before .before .before .before .before .before .before .before .before .before .before .before .before .before .before .before .before .before .before .before .before .before .before .before .before .before .before .before .before .if1 .left) (c .before .before .before .before .before .before .before .before .before .before .before .before .before .before .before .before .before .before .before .before .before .before .before .before .before .before .before .before .before .before .before .before .before .before .before .before .before .before .no-room .ensures) _ _ (c .before .before .before .before .before .before .before .before .before .before .before .before .before .before .before .before .before .before .before .before .before .before .before .before .write-all .ensures)
 
 pub store-spec : {M : Type 1} → statement M
 store-spec =

@@ -1,22 +1,21 @@
+-- `cleaner::store::write_edges` meets its contract: one column after the other.
+use Rattle.cleaner.proofs.Storing.{inside-more}
 use native.Mathlib.Omega.{arith}
 use borrow.Author.Needs.{needs}
 use Rattle.cleaner.proofs.store.write_edges.Statement.{statement}
 use Rattle.cleaner.proofs.store.write_edges.Tie as tie
-use Rattle.cleaner.proofs.store.write_edges.Reads as reads
-use Rattle.cleaner.proofs.store.write_edges.Lts as lts
-use Rattle.writing.proofs.gather.Reads as gather-reads
 
 gather-requires : tie.Need-gather-requires
 gather-requires c κs = search needs
 
 gather-requires-2 : tie.Need-gather-requires-2
-gather-requires-2 c κs = ?
+gather-requires-2 c κs = (c .before .before .before .before .before .before .before .before .before .before .before .before .before .before .pre .0, c .before .before .before .before .before .before .before .before .before .before .before .before .before .before .pre .2, inside-more (omega (arith, c .before .before .before .before .before .before .before .before .before .before .before .before .before .before .pre .6)) (c .before .before .before .before .before .before .before .before .before .before .before .before .before .before .pre .5))
 
 gather-requires-3 : tie.Need-gather-requires-3
-gather-requires-3 c κs = ?
+gather-requires-3 c κs = (c .before .before .before .before .before .before .before .before .before .before .before .before .before .before .before .before .before .before .pre .0, c .before .before .before .before .before .before .before .before .before .before .before .before .before .before .before .before .before .before .pre .3, inside-more (omega (arith, c .before .before .before .before .before .before .before .before .before .before .before .before .before .before .before .before .before .before .pre .7)) (c .before .before .before .before .before .before .before .before .before .before .before .before .before .before .before .before .before .before .pre .5))
 
 gather-requires-4 : tie.Need-gather-requires-4
-gather-requires-4 c κs = ?
+gather-requires-4 c κs = (c .before .before .before .before .before .before .before .before .before .before .before .before .before .before .before .before .before .before .before .before .before .before .pre .0, c .before .before .before .before .before .before .before .before .before .before .before .before .before .before .before .before .before .before .before .before .before .before .pre .4, inside-more (omega (arith, c .before .before .before .before .before .before .before .before .before .before .before .before .before .before .before .before .before .before .before .before .before .before .pre .8)) (c .before .before .before .before .before .before .before .before .before .before .before .before .before .before .before .before .before .before .before .before .before .before .pre .5))
 
 same-length : tie.Need-same-length
 same-length c = search needs

@@ -1,20 +1,18 @@
+-- `cleaner::store::write_mutations` meets its contract: one column after the other.
+use Rattle.cleaner.proofs.Storing.{inside-more}
 use native.Mathlib.Omega.{arith}
 use borrow.Author.Needs.{needs}
 use Rattle.cleaner.proofs.store.write_mutations.Statement.{statement}
 use Rattle.cleaner.proofs.store.write_mutations.Tie as tie
-use Rattle.cleaner.proofs.store.write_mutations.Reads as reads
-use Rattle.cleaner.proofs.store.write_mutations.Lts as lts
-use Rattle.writing.proofs.gather.Reads as gather-reads
-use Rattle.writing.proofs.gather_states.Reads as gather-states-reads
 
 gather-requires : tie.Need-gather-requires
 gather-requires c κs = search needs
 
 gather-requires-2 : tie.Need-gather-requires-2
-gather-requires-2 c κs = ?
+gather-requires-2 c κs = (c .before .before .before .before .before .before .before .before .before .before .before .before .pre .0, c .before .before .before .before .before .before .before .before .before .before .before .before .pre .2, inside-more (c .before .before .before .before .before .before .before .before .before .before .before .before .pre .5) (c .before .before .before .before .before .before .before .before .before .before .before .before .pre .4))
 
 gather-states-requires : tie.Need-gather-states-requires
-gather-states-requires c κs = ?
+gather-states-requires c κs = (c .before .before .before .before .before .before .before .before .before .before .before .before .before .before .before .before .pre .0, c .before .before .before .before .before .before .before .before .before .before .before .before .before .before .before .before .pre .3, inside-more (omega (arith, c .before .before .before .before .before .before .before .before .before .before .before .before .before .before .before .before .pre .6)) (c .before .before .before .before .before .before .before .before .before .before .before .before .before .before .before .before .pre .4))
 
 same-length : tie.Need-same-length
 same-length c = search needs

@@ -1,16 +1,15 @@
+-- `cleaner::store::write_nodes` meets its contract: one column after the other.
+use Rattle.cleaner.proofs.Storing.{inside-more}
 use native.Mathlib.Omega.{arith}
 use borrow.Author.Needs.{needs}
 use Rattle.cleaner.proofs.store.write_nodes.Statement.{statement}
 use Rattle.cleaner.proofs.store.write_nodes.Tie as tie
-use Rattle.cleaner.proofs.store.write_nodes.Reads as reads
-use Rattle.cleaner.proofs.store.write_nodes.Lts as lts
-use Rattle.writing.proofs.gather.Reads as gather-reads
 
 gather-requires : tie.Need-gather-requires
 gather-requires c κs = search needs
 
 gather-requires-2 : tie.Need-gather-requires-2
-gather-requires-2 c κs = ?
+gather-requires-2 c κs = (c .before .before .before .before .before .before .before .before .before .before .pre .0, c .before .before .before .before .before .before .before .before .before .before .pre .2, inside-more (omega (arith, c .before .before .before .before .before .before .before .before .before .before .pre .4)) (c .before .before .before .before .before .before .before .before .before .before .pre .3))
 
 same-length : tie.Need-same-length
 same-length c = search needs
