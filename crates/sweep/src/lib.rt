@@ -1,0 +1,298 @@
+// The sweep along the chromosome: from change to change the tree is brought up to date, the runs are settled and the
+// mutations get their nearest standing row.
+ghost use Prim.Native.Nat.{ℕ, _<_};
+ghost use lib.ListN.{length};
+ghost use Rattle.tree.specs.Kept.{Mended, Filled};
+ghost use Rattle.tree.specs.TreeAt.{Flags};
+ghost use Rattle.sweep.specs.Placing.{Placeable, Placed};
+ghost use Rattle.sweep.specs.Sweeping.{Asked, Steady, Going, Came, Done};
+ghost use Rattle.meaning.specs.Rows.{Edge};
+ghost use mathlib.Core.List.{List};
+
+// Gives each mutation from m0 on whose site lies before next its nearest standing row; the answer is the first of the others.
+fn place(
+    time: &[u32],
+    sample: &[u8],
+    par: &[u32],
+    count: &[u32],
+    sum: &[u32],
+    position: &[u32],
+    site: &[u32],
+    node: &[u32],
+    mlow: &mut [u32],
+    m0: usize,
+    next: u32,
+) -> usize
+    requires { ⌜ Mended (now time) (now sample) (now par) (now count) (now sum) × Placeable (now position) (now site) (now node) (now mlow) (length (now par)) m0 ⌝ }
+    ensures { λ r. ⌜ Placed (now (sample .entry)) (now (par .entry)) (now (position .entry)) (now (site .entry)) (now (node .entry)) next (now (mlow .entry)) m0 (now (mlow .exit)) r ⌝ }
+{
+    let mut m = m0;
+    while m < site.len() {
+        let s = site[m];
+        if next <= position[s as usize] {
+            return m;
+        }
+        mlow[m] = tree::low_at(time, sample, par, count, sum, node[m]);
+        m += 1;
+    }
+    m
+}
+
+// Every cell is v.
+fn fill(column: &mut [u32], v: u32)
+    ensures { λ r. ⌜ Filled (now (column .exit)) (length (now (column .entry))) v ⌝ }
+{
+    let mut i = 0;
+    while i < column.len() {
+        column[i] = v;
+        i += 1;
+    }
+}
+
+// No row is marked.
+fn clear(marks: &mut [u8])
+    ensures { λ r. ⌜ Filled (now (marks .exit)) (length (now (marks .entry))) 0 ⌝ }
+{
+    let mut i = 0;
+    while i < marks.len() {
+        marks[i] = 0;
+        i += 1;
+    }
+}
+
+// How far a sweep has come: edges begun and ended, edges finished, mutations placed, and the position to deal with next.
+pub struct Reach {
+    pub begun: usize,
+    pub ended: usize,
+    pub made: usize,
+    pub placed: usize,
+    pub next: u32,
+}
+
+// Deals with the change where the sweep is: the tree is brought there, its runs are settled, and the mutations before the next
+// change get their rows.
+fn step(
+    len: u32,
+    time: &[u32],
+    sample: &[u8],
+    left: &[u32],
+    right: &[u32],
+    parent: &[u32],
+    child: &[u32],
+    bl: &[u32],
+    br: &[u32],
+    position: &[u32],
+    site: &[u32],
+    node: &[u32],
+    par: &mut [u32],
+    count: &mut [u32],
+    sum: &mut [u32],
+    up: &mut [u32],
+    touched: &mut [u32],
+    open_left: &mut [u32],
+    open_par: &mut [u32],
+    fl: &mut [u32],
+    fr: &mut [u32],
+    fp: &mut [u32],
+    fc: &mut [u32],
+    stood: &mut [u8],
+    mlow: &mut [u32],
+    from: Reach,
+) -> Reach
+    requires { ⌜ Steady len (record { time = now time; sample = now sample; left = now left; right = now right; parent = now parent; child = now child; by-left = now bl; by-right = now br; position = now position; site = now site; node = now node }) (length (now touched)) (from .next) (record { parents = now par; counts = now count; sums = now sum; ups = now up; runs = record { left = now open_left; par = now open_par }; store = record { left = now fl; right = now fr; parent = now fp; child = now fc; stood = now stood; count = from .made }; lows = now mlow; begun = from .begun; ended = from .ended; placed = from .placed }) × (from .next < len) ⌝ }
+    ensures { λ r. ⌜ Came len (record { time = now (time .entry); sample = now (sample .entry); left = now (left .entry); right = now (right .entry); parent = now (parent .entry); child = now (child .entry); by-left = now (bl .entry); by-right = now (br .entry); position = now (position .entry); site = now (site .entry); node = now (node .entry) }) (length (now (touched .entry))) (from .next) (record { parents = now (par .entry); counts = now (count .entry); sums = now (sum .entry); ups = now (up .entry); runs = record { left = now (open_left .entry); par = now (open_par .entry) }; store = record { left = now (fl .entry); right = now (fr .entry); parent = now (fp .entry); child = now (fc .entry); stood = now (stood .entry); count = from .made }; lows = now (mlow .entry); begun = from .begun; ended = from .ended; placed = from .placed }) (r .next) (record { parents = now (par .exit); counts = now (count .exit); sums = now (sum .exit); ups = now (up .exit); runs = record { left = now (open_left .exit); par = now (open_par .exit) }; store = record { left = now (fl .exit); right = now (fr .exit); parent = now (fp .exit); child = now (fc .exit); stood = now (stood .exit); count = r .made }; lows = now (mlow .exit); begun = r .begun; ended = r .ended; placed = r .placed }) × (from .next < r .next) ⌝ }
+{
+    let x = from.next;
+    let c = tree::advance(
+        time,
+        sample,
+        par,
+        count,
+        sum,
+        up,
+        touched,
+        left,
+        right,
+        parent,
+        child,
+        bl,
+        br,
+        from.begun,
+        from.ended,
+        x,
+    );
+    let i = c.begun;
+    let j = c.ended;
+    let made = runs::settle(
+        x,
+        len,
+        touched,
+        c.touched,
+        up,
+        open_left,
+        open_par,
+        fl,
+        fr,
+        fp,
+        fc,
+        stood,
+        from.made,
+    );
+    let next = tree::next_change(left, right, bl, br, i, j, len);
+    let placed = place(
+        time,
+        sample,
+        par,
+        count,
+        sum,
+        position,
+        site,
+        node,
+        mlow,
+        from.placed,
+        next,
+    );
+    Reach {
+        begun: i,
+        ended: j,
+        made: made,
+        placed: placed,
+        next: next,
+    }
+}
+
+// From the start of the chromosome to its end, where the open runs are finished.
+fn walk(
+    len: u32,
+    time: &[u32],
+    sample: &[u8],
+    left: &[u32],
+    right: &[u32],
+    parent: &[u32],
+    child: &[u32],
+    bl: &[u32],
+    br: &[u32],
+    position: &[u32],
+    site: &[u32],
+    node: &[u32],
+    par: &mut [u32],
+    count: &mut [u32],
+    sum: &mut [u32],
+    up: &mut [u32],
+    touched: &mut [u32],
+    open_left: &mut [u32],
+    open_par: &mut [u32],
+    fl: &mut [u32],
+    fr: &mut [u32],
+    fp: &mut [u32],
+    fc: &mut [u32],
+    stood: &mut [u8],
+    mlow: &mut [u32],
+) -> usize
+    requires { ⌜ Steady len (record { time = now time; sample = now sample; left = now left; right = now right; parent = now parent; child = now child; by-left = now bl; by-right = now br; position = now position; site = now site; node = now node }) (length (now touched)) 0 (record { parents = now par; counts = now count; sums = now sum; ups = now up; runs = record { left = now open_left; par = now open_par }; store = record { left = now fl; right = now fr; parent = now fp; child = now fc; stood = now stood; count = 0 }; lows = now mlow; begun = 0; ended = 0; placed = 0 }) ⌝ }
+    ensures { λ r. ⌜ ((Q : List ℕ) → Flags (now (sample .entry)) Q (length (now (time .entry))) → (F : List Edge) → Going len (record { time = now (time .entry); sample = now (sample .entry); left = now (left .entry); right = now (right .entry); parent = now (parent .entry); child = now (child .entry); by-left = now (bl .entry); by-right = now (br .entry); position = now (position .entry); site = now (site .entry); node = now (node .entry) }) 0 Q F (record { parents = now (par .entry); counts = now (count .entry); sums = now (sum .entry); ups = now (up .entry); runs = record { left = now (open_left .entry); par = now (open_par .entry) }; store = record { left = now (fl .entry); right = now (fr .entry); parent = now (fp .entry); child = now (fc .entry); stood = now (stood .entry); count = 0 }; lows = now (mlow .entry); begun = 0; ended = 0; placed = 0 }) → Done len (record { time = now (time .entry); sample = now (sample .entry); left = now (left .entry); right = now (right .entry); parent = now (parent .entry); child = now (child .entry); by-left = now (bl .entry); by-right = now (br .entry); position = now (position .entry); site = now (site .entry); node = now (node .entry) }) Q (now (mlow .entry)) (record { left = now (fl .exit); right = now (fr .exit); parent = now (fp .exit); child = now (fc .exit); stood = now (stood .exit); count = r }) (now (mlow .exit))) ⌝ }
+{
+    let mut at = Reach {
+        begun: 0,
+        ended: 0,
+        made: 0,
+        placed: 0,
+        next: 0,
+    };
+    while at.next < len {
+        at = step(
+            len,
+            time,
+            sample,
+            left,
+            right,
+            parent,
+            child,
+            bl,
+            br,
+            position,
+            site,
+            node,
+            par,
+            count,
+            sum,
+            up,
+            touched,
+            open_left,
+            open_par,
+            fl,
+            fr,
+            fp,
+            fc,
+            stood,
+            mlow,
+            at,
+        );
+    }
+    runs::close(len, open_left, open_par, fl, fr, fp, fc, stood, at.made)
+}
+
+// Sweeps along the chromosome: the finished edges of all output parents, and the nearest standing row of each mutation. The answer is
+// the number of finished edges, or one more than fit.
+pub fn sweep(
+    len: u32,
+    time: &[u32],
+    sample: &[u8],
+    left: &[u32],
+    right: &[u32],
+    parent: &[u32],
+    child: &[u32],
+    bl: &[u32],
+    br: &[u32],
+    position: &[u32],
+    site: &[u32],
+    node: &[u32],
+    par: &mut [u32],
+    count: &mut [u32],
+    sum: &mut [u32],
+    up: &mut [u32],
+    touched: &mut [u32],
+    open_left: &mut [u32],
+    open_par: &mut [u32],
+    fl: &mut [u32],
+    fr: &mut [u32],
+    fp: &mut [u32],
+    fc: &mut [u32],
+    stood: &mut [u8],
+    mlow: &mut [u32],
+) -> usize
+    requires { ⌜ Asked len (record { time = now time; sample = now sample; left = now left; right = now right; parent = now parent; child = now child; by-left = now bl; by-right = now br; position = now position; site = now site; node = now node }) (length (now touched)) (record { parents = now par; counts = now count; sums = now sum; ups = now up; runs = record { left = now open_left; par = now open_par }; store = record { left = now fl; right = now fr; parent = now fp; child = now fc; stood = now stood; count = 0 }; lows = now mlow; begun = 0; ended = 0; placed = 0 }) ⌝ }
+    ensures { λ r. ⌜ ((Q : List ℕ) → Flags (now (sample .entry)) Q (length (now (time .entry))) → Done len (record { time = now (time .entry); sample = now (sample .entry); left = now (left .entry); right = now (right .entry); parent = now (parent .entry); child = now (child .entry); by-left = now (bl .entry); by-right = now (br .entry); position = now (position .entry); site = now (site .entry); node = now (node .entry) }) Q (now (mlow .entry)) (record { left = now (fl .exit); right = now (fr .exit); parent = now (fp .exit); child = now (fc .exit); stood = now (stood .exit); count = r }) (now (mlow .exit))) ⌝ }
+{
+    tree::start(time, sample, par, count, sum, up);
+    fill(open_left, 0);
+    fill(open_par, tree::NONE);
+    clear(stood);
+    walk(
+        len,
+        time,
+        sample,
+        left,
+        right,
+        parent,
+        child,
+        bl,
+        br,
+        position,
+        site,
+        node,
+        par,
+        count,
+        sum,
+        up,
+        touched,
+        open_left,
+        open_par,
+        fl,
+        fr,
+        fp,
+        fc,
+        stood,
+        mlow,
+    )
+}

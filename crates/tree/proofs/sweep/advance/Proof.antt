@@ -1,0 +1,58 @@
+-- `tree::sweep::advance` meets its contract: edges end, then edges begin, and the columns are the tree at x.
+use mathlib.Core.Path.{sym, _∙_}
+use Rattle.tree.proofs.Touching.{noted-then}
+use Rattle.tree.proofs.Sweeping.{plan-on}
+use Rattle.tree.proofs.Moving.{set-off, turn, arrive}
+use Rattle.tree.proofs.Meaning.{tree-at}
+use native.Mathlib.Omega.{arith}
+use borrow.Author.Needs.{needs}
+use Rattle.tree.proofs.sweep.advance.Statement.{statement}
+use Rattle.tree.proofs.sweep.advance.Tie as tie
+
+end-edges-requires : tie.Need-end-edges-requires
+end-edges-requires c κs = let sw : _ = c .before .before .before .before .before .before .before .before .before .before .before .before .before .before .before .before .before .before .pre .0 in (sw .kept, sw .plan, set-off sw, omega (arith, c .before .before .before .before .before .before .before .before .before .before .before .before .before .before .before .before .before .before .pre .1))
+
+begin-edges-requires : tie.Need-begin-edges-requires
+begin-edges-requires c κs =
+    let sw : _ = c .before .before .before .before .before .before .before .before .before .before .before .before .before .before .before .before .before .before .before .before .before .before .before .before .before .before .before .before .before .before .before .before .before .before .pre .0 in
+    let e : _ = c .before .before .before .before .before .before .before .before .before .before .before .before .before .before .before .end-edges .ensures in
+    let kp : _ = c .before .before .before .before .before .before .before .before .before .before .before .before .before .before .before .end-edges .kept .1 .1 in
+    (e .0, plan-on (kp .0) (sw .plan), turn (e .1), omega (arith, c .before .before .before .before .before .before .before .before .before .before .before .before .before .before .before .before .before .before .before .before .before .before .before .before .before .before .before .before .before .before .before .before .before .before .pre .1, e .2 .few, e .3, kp .1 .1 .1 .1 .0))
+
+same-length : tie.Need-same-length
+same-length c = search needs
+
+same-length-2 : tie.Need-same-length-2
+same-length-2 c = search needs
+
+same-length-3 : tie.Need-same-length-3
+same-length-3 c = search needs
+
+same-length-4 : tie.Need-same-length-4
+same-length-4 c = search needs
+
+same-length-5 : tie.Need-same-length-5
+same-length-5 c = search needs
+
+returns : tie.Need-returns
+returns c =
+    let sw : _ = c .before .before .before .before .before .before .before .before .before .before .before .before .before .before .before .before .before .before .before .before .before .before .before .before .before .before .before .before .before .before .before .before .before .before .before .before .before .before .before .before .before .before .before .before .before .pre .0 in
+    let e : _ = c .before .before .before .before .before .before .before .before .before .before .before .before .before .before .before .before .before .before .before .before .before .before .before .before .before .before .end-edges .ensures in
+    let b : _ = c .before .before .before .before .before .before .before .before .before .before .begin-edges .ensures in
+    let kp : _ = c .before .before .before .before .before .before .before .before .before .before .before .before .before .before .before .before .before .before .before .before .before .before .before .before .before .before .end-edges .kept .1 .1 in
+    let kq : _ = c .before .before .before .before .before .before .before .before .before .before .begin-edges .kept .1 .1 in
+    let ar : _ = arrive _ (sym (kp .0) ∙ sym (kq .0)) (b .4) (b .0) (sw .plan) (b .1) in
+    (ar, (λ Q fl. tree-at _ ar fl), noted-then (kp .1 .1 .1 .0) (omega (arith, b .4)) (e .2) (b .2))
+
+pub advance-spec : {M : Type 1} → statement M
+advance-spec =
+    tie.close
+    (tie.spec
+    end-edges-requires
+    begin-edges-requires
+    same-length
+    same-length-2
+    same-length-3
+    same-length-4
+    same-length-5
+    returns)

@@ -1,0 +1,139 @@
+// One edge enters or leaves: parents, counts, sums and the nearest standing rows, with a list of the rows written.
+use super::NONE;
+use super::mend::alive;
+use super::mend::climb_down;
+use super::mend::climb_up;
+use super::mend::heir;
+use super::mend::low;
+use super::mend::stop;
+ghost use mathlib.Core.Path.{_≡_};
+ghost use mathlib.Core.Bool.{true};
+ghost use Prim.Native.Nat.{ℕ, _+_, _<_, _≤_};
+ghost use lib.ListN.{length, getD, set};
+ghost use Rattle.tree.specs.Right.{none, live};
+ghost use Rattle.tree.specs.Line.{Gained, Lost};
+ghost use Rattle.tree.specs.Kept.{Mended, Kept, Enters, Noted};
+
+// Every write of the column `up` goes through here: the row v is listed, and the answer is the new number of listed rows.
+fn put_up(up: &mut [u32], touched: &mut [u32], k: usize, v: u32, x: u32) -> usize
+    requires { ⌜ (v < length (now up)) × (k < length (now touched)) ⌝ }
+    ensures { λ r. ⌜ (now (up .exit) ≡ set (now (up .entry)) v x) × Noted (length (now (up .entry))) 1 (now (up .entry)) (now (up .exit)) (now (touched .entry)) (now (touched .exit)) k r ⌝ }
+{
+    up[v as usize] = x;
+    touched[k] = v;
+    k + 1
+}
+
+// s comes to stand above w and z, and takes over what was above z.
+fn seat(up: &mut [u32], touched: &mut [u32], k: usize, w: u32, z: u32, s: u32) -> usize
+    requires { ⌜ (w < length (now up)) × (z < length (now up)) × (s < length (now up)) × (k + 3 ≤ length (now touched)) ⌝ }
+    ensures { λ r. ⌜ (now (up .exit) ≡ set (set (set (now (up .entry)) w s) z s) s (getD (now (up .entry)) z 0)) × Noted (length (now (up .entry))) 3 (now (up .entry)) (now (up .exit)) (now (touched .entry)) (now (touched .exit)) k r ⌝ }
+{
+    let o = up[z as usize];
+    let a = put_up(up, touched, k, w, s);
+    let b = put_up(up, touched, a, z, s);
+    put_up(up, touched, b, s, o)
+}
+
+// s ceases to stand: z gets what was above s, and nothing is above w.
+fn cede(up: &mut [u32], touched: &mut [u32], k: usize, w: u32, z: u32, s: u32) -> usize
+    requires { ⌜ (w < length (now up)) × (z < length (now up)) × (s < length (now up)) × (k + 3 ≤ length (now touched)) ⌝ }
+    ensures { λ r. ⌜ (now (up .exit) ≡ set (set (set (now (up .entry)) z (getD (now (up .entry)) s 0)) s none) w none) × Noted (length (now (up .entry))) 3 (now (up .entry)) (now (up .exit)) (now (touched .entry)) (now (touched .exit)) k r ⌝ }
+{
+    let o = up[s as usize];
+    let a = put_up(up, touched, k, z, o);
+    let b = put_up(up, touched, a, s, NONE);
+    put_up(up, touched, b, w, NONE)
+}
+
+// c, which lives, gets the parent p; the answer is the row where mending ends.
+fn link(
+    time: &[u32],
+    sample: &[u8],
+    parent: &mut [u32],
+    count: &mut [u32],
+    sum: &mut [u32],
+    c: u32,
+    p: u32,
+) -> u32
+    requires { ⌜ Mended (now time) (now sample) (now parent) (now count) (now sum) × Enters (now time) (now parent) c p × (live (now sample) (now count) c ≡ true) ⌝ }
+    ensures { λ r. ⌜ (now (parent .exit) ≡ set (now (parent .entry)) c p) × Mended (now (time .entry)) (now (sample .entry)) (now (parent .exit)) (now (count .exit)) (now (sum .exit)) × Gained (now (sample .entry)) (now (parent .exit)) (now (count .entry)) (now (count .exit)) p c r ⌝ }
+{
+    parent[c as usize] = p;
+    climb_up(time, sample, parent, count, sum, p, c)
+}
+
+// c, which lives, loses its parent; the answer is the row where mending ends.
+fn unlink(
+    time: &[u32],
+    sample: &[u8],
+    parent: &mut [u32],
+    count: &mut [u32],
+    sum: &mut [u32],
+    c: u32,
+) -> u32
+    requires { ⌜ Mended (now time) (now sample) (now parent) (now count) (now sum) × (c < length (now parent)) × (live (now sample) (now count) c ≡ true) ⌝ }
+    ensures { λ r. ⌜ (now (parent .exit) ≡ set (now (parent .entry)) c none) × Mended (now (time .entry)) (now (sample .entry)) (now (parent .exit)) (now (count .exit)) (now (sum .exit)) × Lost (now (time .entry)) (now (sample .entry)) (now (parent .exit)) (now (count .entry)) (now (count .exit)) (getD (now (parent .entry)) c 0) r ⌝ }
+{
+    let q = parent[c as usize];
+    parent[c as usize] = NONE;
+    climb_down(time, sample, parent, count, sum, q, c)
+}
+
+// An edge enters: c gets the parent p. The answer is the new number of listed rows.
+pub fn insert_up(
+    time: &[u32],
+    sample: &[u8],
+    parent: &mut [u32],
+    count: &mut [u32],
+    sum: &mut [u32],
+    up: &mut [u32],
+    touched: &mut [u32],
+    k: usize,
+    c: u32,
+    p: u32,
+) -> usize
+    requires { ⌜ Kept (now time) (now sample) (now parent) (now count) (now sum) (now up) × Enters (now time) (now parent) c p × (k + 3 ≤ length (now touched)) ⌝ }
+    ensures { λ r. ⌜ (now (parent .exit) ≡ set (now (parent .entry)) c p) × Kept (now (time .entry)) (now (sample .entry)) (now (parent .exit)) (now (count .exit)) (now (sum .exit)) (now (up .exit)) × Noted (length (now (up .entry))) 3 (now (up .entry)) (now (up .exit)) (now (touched .entry)) (now (touched .exit)) k r ⌝ }
+{
+    if alive(sample, count, c) {
+        let s = stop(time, sample, parent, count, p);
+        let w = low(time, sample, parent, count, sum, c);
+        let z = heir(time, sample, parent, count, sum, s);
+        link(time, sample, parent, count, sum, c, p);
+        if z == NONE {
+            return put_up(up, touched, k, w, s);
+        }
+        return seat(up, touched, k, w, z, s);
+    }
+    parent[c as usize] = p;
+    k
+}
+
+// An edge leaves: c has no parent any more. The answer is the new number of listed rows.
+pub fn remove_up(
+    time: &[u32],
+    sample: &[u8],
+    parent: &mut [u32],
+    count: &mut [u32],
+    sum: &mut [u32],
+    up: &mut [u32],
+    touched: &mut [u32],
+    k: usize,
+    c: u32,
+) -> usize
+    requires { ⌜ Kept (now time) (now sample) (now parent) (now count) (now sum) (now up) × (c < length (now parent)) × (k + 3 ≤ length (now touched)) × (getD (now parent) c 0 ≡ none → ⊥) ⌝ }
+    ensures { λ r. ⌜ (now (parent .exit) ≡ set (now (parent .entry)) c none) × Kept (now (time .entry)) (now (sample .entry)) (now (parent .exit)) (now (count .exit)) (now (sum .exit)) (now (up .exit)) × Noted (length (now (up .entry))) 3 (now (up .entry)) (now (up .exit)) (now (touched .entry)) (now (touched .exit)) k r ⌝ }
+{
+    if alive(sample, count, c) {
+        let s = unlink(time, sample, parent, count, sum, c);
+        let w = low(time, sample, parent, count, sum, c);
+        let z = heir(time, sample, parent, count, sum, s);
+        if z == NONE {
+            return put_up(up, touched, k, w, NONE);
+        }
+        return cede(up, touched, k, w, z, s);
+    }
+    parent[c as usize] = NONE;
+    k
+}
