@@ -2,3 +2,10 @@
 pub mod Work
 pub mod Outcome
 pub mod Fitting
+pub mod Tracing
+pub mod Reading
+pub mod Places
+pub mod HeldEdges
+pub mod HeldMutations
+pub mod Planning
+pub mod Holding

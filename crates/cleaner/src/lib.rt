@@ -1,4 +1,6 @@
-// Cleaning.
+// Cleaning: the tables are checked, the tree is swept along the chromosome, the rows kept and the edges are put in order,
+// and all is written once it is known to fit.
+mod rank;
 mod store;
 
 use meaning::Refusal;
