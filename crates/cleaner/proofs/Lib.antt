@@ -1,2 +1,4 @@
--- Laws of the cleaning call.
+-- Laws of the cleaning call: what is written, and the rows kept and their order.
 pub mod Storing
+pub mod Ranking
+pub mod Tracing

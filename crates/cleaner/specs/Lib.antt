@@ -8,4 +8,5 @@ pub mod Places
 pub mod HeldEdges
 pub mod HeldMutations
 pub mod Planning
+pub mod Sweeping
 pub mod Holding

@@ -102,3 +102,8 @@ pub record Held (B : Base) (W : Work) (new : Tables) (newMap : List ℕ) : Type 
   pub edges : W .edges ≤ limits .edges → new .edges ≡ written B W .edges
   pub over : limits .edges < W .edges → limits .edges < length (new .edges .left)
   pub nodemap : newMap ≡ take (length (B .time)) (W .places)
+
+-- both, for tables T
+pub record Holds (T : Tables) (W : Work) (new : Tables) (newMap : List ℕ) : Type 0 where
+  pub safe : Safe (baseOf T) W
+  pub held : Held (baseOf T) W new newMap

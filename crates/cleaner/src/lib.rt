@@ -2,6 +2,7 @@
 // and all is written once it is known to fit.
 mod rank;
 mod store;
+mod trace;
 
 use meaning::Refusal;
 

@@ -1,23 +1,20 @@
+-- `cleaner::rank::finish_edges` meets its contract: the order, and then the places.
 use native.Mathlib.Omega.{arith}
 use borrow.Author.Needs.{needs}
 use Rattle.cleaner.proofs.rank.finish_edges.Statement.{statement}
 use Rattle.cleaner.proofs.rank.finish_edges.Tie as tie
-use Rattle.cleaner.proofs.rank.finish_edges.Reads as reads
-use Rattle.cleaner.proofs.rank.finish_edges.Lts as lts
-use Rattle.cleaner.proofs.rank.order_edges.Reads as order-edges-reads
-use Rattle.writing.proofs.rename.Reads as rename-reads
 
 returns : tie.Need-returns
-returns c = search needs
+returns c = λ h. absurd (omega (arith, c .if1 .taken))
 
 order-edges-requires : tie.Need-order-edges-requires
-order-edges-requires c κs = search needs
+order-edges-requires c κs = (c .before .before .before .if1 .left, c .before .before .before .before .before .before .before .before .before .before .before .pre (c .before .before .before .if1 .left) .0, c .before .before .before .before .before .before .before .before .before .before .before .pre (c .before .before .before .if1 .left) .1, c .before .before .before .before .before .before .before .before .before .before .before .pre (c .before .before .before .if1 .left) .2, c .before .before .before .before .before .before .before .before .before .before .before .pre (c .before .before .before .if1 .left) .3, c .before .before .before .before .before .before .before .before .before .before .before .pre (c .before .before .before .if1 .left) .4, c .before .before .before .before .before .before .before .before .before .before .before .pre (c .before .before .before .if1 .left) .5, c .before .before .before .before .before .before .before .before .before .before .before .pre (c .before .before .before .if1 .left) .6)
 
 rename-requires : tie.Need-rename-requires
-rename-requires c κs = search needs
+rename-requires c κs = c .before .before .before .before .before .before .before .before .before .before .before .before .before .before .before .pre (c .before .before .before .before .before .before .before .if1 .left) .1
 
 rename-requires-2 : tie.Need-rename-requires-2
-rename-requires-2 c κs = search needs
+rename-requires-2 c κs = c .before .before .before .before .before .before .before .before .before .before .before .before .before .before .before .before .before .before .before .pre (c .before .before .before .before .before .before .before .before .before .before .before .if1 .left) .2
 
 same-length : tie.Need-same-length
 same-length c = search needs
