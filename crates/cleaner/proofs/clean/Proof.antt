@@ -1,0 +1,85 @@
+use native.Mathlib.Omega.{arith}
+use borrow.Author.Needs.{needs}
+use Rattle.cleaner.proofs.clean.Statement.{statement}
+use Rattle.cleaner.proofs.clean.Tie as tie
+use Rattle.cleaner.proofs.clean.Reads as reads
+use Rattle.cleaner.proofs.clean.Lts as lts
+use Rattle.checker.proofs.check.Reads as check-reads
+use Rattle.cleaner.proofs.clean_sound.Reads as clean-sound-reads
+
+check-requires : tie.Need-check-requires
+check-requires c κs = search needs
+
+enum-known-r : tie.Need-enum-known-r
+enum-known-r c = search needs
+
+enum-told : tie.Need-enum-told
+enum-told c = search needs
+
+clean-sound-requires : tie.Need-clean-sound-requires
+clean-sound-requires c κs = ?
+
+returns : tie.Need-returns
+returns c = ?
+
+same-length : tie.Need-same-length
+same-length c = search needs
+
+same-length-2 : tie.Need-same-length-2
+same-length-2 c = search needs
+
+same-length-3 : tie.Need-same-length-3
+same-length-3 c = search needs
+
+same-length-4 : tie.Need-same-length-4
+same-length-4 c = search needs
+
+same-length-5 : tie.Need-same-length-5
+same-length-5 c = search needs
+
+same-length-6 : tie.Need-same-length-6
+same-length-6 c = search needs
+
+same-length-7 : tie.Need-same-length-7
+same-length-7 c = search needs
+
+same-length-8 : tie.Need-same-length-8
+same-length-8 c = search needs
+
+same-length-9 : tie.Need-same-length-9
+same-length-9 c = search needs
+
+same-length-10 : tie.Need-same-length-10
+same-length-10 c = search needs
+
+same-length-11 : tie.Need-same-length-11
+same-length-11 c = search needs
+
+same-length-12 : tie.Need-same-length-12
+same-length-12 c = search needs
+
+returns-2 : tie.Need-returns-2
+returns-2 c = ?
+
+pub clean-spec : {M : Type 1} → statement M
+clean-spec =
+    tie.close
+    (tie.spec
+    check-requires
+    enum-known-r
+    enum-told
+    clean-sound-requires
+    returns
+    same-length
+    same-length-2
+    same-length-3
+    same-length-4
+    same-length-5
+    same-length-6
+    same-length-7
+    same-length-8
+    same-length-9
+    same-length-10
+    same-length-11
+    same-length-12
+    returns-2)
