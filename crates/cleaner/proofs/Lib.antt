@@ -2,3 +2,5 @@
 pub mod Storing
 pub mod Ranking
 pub mod Tracing
+pub mod Working
+pub mod Calling

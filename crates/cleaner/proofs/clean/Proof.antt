@@ -1,11 +1,9 @@
+-- `cleaner::clean` meets its contract: the check's refusal, or the cleaning of sound tables.
+use Rattle.cleaner.proofs.Calling.{grounded, call-refused, call-done}
 use native.Mathlib.Omega.{arith}
 use borrow.Author.Needs.{needs}
 use Rattle.cleaner.proofs.clean.Statement.{statement}
 use Rattle.cleaner.proofs.clean.Tie as tie
-use Rattle.cleaner.proofs.clean.Reads as reads
-use Rattle.cleaner.proofs.clean.Lts as lts
-use Rattle.checker.proofs.check.Reads as check-reads
-use Rattle.cleaner.proofs.clean_sound.Reads as clean-sound-reads
 
 check-requires : tie.Need-check-requires
 check-requires c κs = search needs
@@ -17,10 +15,10 @@ enum-told : tie.Need-enum-told
 enum-told c = search needs
 
 clean-sound-requires : tie.Need-clean-sound-requires
-clean-sound-requires c κs = ?
+clean-sound-requires c κs = grounded _ _ _ _ (c .before .before .before .before .before .before .before .before .before .before .before .before .before .before .check .ensures) (c .before .before .before .before .before .before .before .before .before .before .before .before .enum-told .given .1) (λ i l. omega (arith, c .before .before .before .before .before .before .before .before .before .before .before .before .before .before .before .before .before .before .before .before .before .before .before .before .before .before .before .before .before .before .before .before .before .before .before .before .before .before .shared-slice-known .given i))
 
 returns : tie.Need-returns
-returns c = ?
+returns c = call-refused _ _ _ _ (c .before .before .before .check .ensures) _ _ _ (c .before .r .given .1)
 
 same-length : tie.Need-same-length
 same-length c = search needs
@@ -59,7 +57,7 @@ same-length-12 : tie.Need-same-length-12
 same-length-12 c = search needs
 
 returns-2 : tie.Need-returns-2
-returns-2 c = ?
+returns-2 c = call-done _ _ _ _ (c .before .before .before .before .before .before .before .before .before .before .before .before .before .before .before .before .before .before .before .before .before .before .before .before .before .before .before .before .before .before .before .before .before .before .before .before .before .before .before .check .ensures) _ _ (c .before .before .before .before .before .before .before .before .before .before .before .before .before .before .before .before .before .before .before .before .before .before .before .before .before .before .before .before .before .before .before .before .before .before .before .before .before .enum-told .given .1) _ (c .before .before .before .before .before .before .before .before .before .before .before .before .before .before .before .before .before .before .before .before .before .before .before .before .clean-sound .ensures)
 
 pub clean-spec : {M : Type 1} → statement M
 clean-spec =
