@@ -39,7 +39,7 @@ module _ (L : ℕ) (T : Tables) (S : List ℕ) (c : Checked) (e : checkedOf c �
     call-refused r q = sym (
         cleaning-by L T S out outMap (refusalOf r) (sym (stops (checkAllThen limits L T S) hand c found r q rest) ∙ ap checkedOf q)
         ∙ ending-refused (refusalOf r) (cleaned stands L T S) (nodeMap stands L T S) out outMap (refused r)
-    )
+        )
 
     pub call-done : c ≡ checked.Sound → (o : Outcome) → o ≡ afterCheck L T S out outMap → o ≡ cleaning stands limits L T S out outMap
     unfolding afterCheck

@@ -132,14 +132,14 @@ module _ (B : Base) (W : Work) (safe : Safe B W) (new : Tables) (newMap : List �
         let e : roomAnswer (needsIn B W) (lentBy out outMap) ≡ done = room-zero t (needsIn B W) (lentBy out outMap) z f in
         let l : W .edges ≤ limits .edges = room-for (needsIn B W) (lentBy out outMap) e .edges-few in
         sym (
-            ap (λ (a : Answer). ending a new newMap out outMap) (fit-answer out outMap ∙ e)
-            ∙ ending-done new newMap out outMap
-            ∙ (λ i. record {
-              answer = done;
-              counts = record { nodes = nodes-count i; edges = edges-count l i; sites = sites-count i; mutations = muts-count i };
-              cells = (all l ∙ sym (w .cells)) i;
-              map = (ap (λ z. put z outMap) (h .nodemap) ∙ sym (w .nodemap)) i;
-            })
+        ap (λ (a : Answer). ending a new newMap out outMap) (fit-answer out outMap ∙ e)
+        ∙ ending-done new newMap out outMap
+        ∙ (λ i. record {
+          answer = done;
+          counts = record { nodes = nodes-count i; edges = edges-count l i; sites = sites-count i; mutations = muts-count i };
+          cells = (all l ∙ sym (w .cells)) i;
+          map = (ap (λ z. put z outMap) (h .nodemap) ∙ sym (w .nodemap)) i;
+        })
         )
       where
         all : W .edges ≤ limits .edges → putAll new out ≡ putAll (written B W) out

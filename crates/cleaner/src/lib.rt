@@ -1,6 +1,7 @@
 // Cleaning: the tables are checked, the tree is swept along the chromosome, the rows kept and the edges are put in order,
 // and all is written once it is known to fit.
-// On the stack: 107,520 bytes here, 2,048 in `work`, 32,768 in `trace`, 122,880 in `swept` and 49,152 in `order_edges`.
+// Arrays on the stack: 99,328 bytes here, 2,048 in `work`, 32,768 in `trace`, 122,880 in `swept`; 257,024 at most at once
+// (`order_edges` has 49,152 after the trace is done).
 ghost use mathlib.Core.Path.{_≡_};
 ghost use mathlib.Core.List.{List};
 ghost use Prim.Native.Nat.{ℕ, _≤_};
@@ -28,7 +29,12 @@ const KEPT: usize = 1280;
 
 // The answer of a cleaning.
 pub enum Cleaned {
-    Done { nodes: usize, edges: usize, sites: usize, mutations: usize },
+    Done {
+        nodes: usize,
+        edges: usize,
+        sites: usize,
+        mutations: usize,
+    },
     Refused(Refusal),
 }
 

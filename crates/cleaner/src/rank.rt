@@ -8,7 +8,6 @@ ghost use Rattle.meaning.specs.Answer.{limits};
 ghost use Rattle.accepted.specs.Checked.{Apart};
 ghost use Rattle.order.specs.Order.{Columns, Inside, SortedFrom, byKeys};
 ghost use Rattle.cleaner.specs.Tracing.{KeptRows, EdgesFinished, MutationsFinished};
-
 use meaning::EdgeTable;
 
 // A table's rows in the order of four key columns.

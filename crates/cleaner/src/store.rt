@@ -11,9 +11,8 @@ ghost use Rattle.cleaner.specs.Outcome.{outcomeOf, ending, fitAnswer};
 ghost use Rattle.writing.specs.Room.{lentBy};
 ghost use Rattle.cleaner.specs.Fitting.{RoomFor};
 ghost use Rattle.cleaner.specs.Work.{Safe, Held, Written};
-
-use meaning::Refusal;
 use crate::Cleaned;
+use meaning::Refusal;
 
 // Table 1: the rows kept.
 fn write_nodes(
@@ -136,7 +135,16 @@ fn write_all(
         out_child,
     );
     write_sites(position, ancestral, out_position, out_ancestral);
-    write_mutations(site, lows, derived, moved, mutations, out_site, out_node, out_derived);
+    write_mutations(
+        site,
+        lows,
+        derived,
+        moved,
+        mutations,
+        out_site,
+        out_node,
+        out_derived,
+    );
     writing::copy(places, time.len(), out_map);
 }
 

@@ -9,7 +9,6 @@ ghost use Rattle.tree.specs.TreeAt.{Flags};
 ghost use Rattle.sweep.specs.Sweeping.{Done};
 ghost use Rattle.cleaner.specs.Tracing.{Passed, Traced};
 ghost use Rattle.cleaner.specs.Sweeping.{Sweepable, Roomy};
-
 use meaning::EdgeTable;
 use meaning::NodeTable;
 
