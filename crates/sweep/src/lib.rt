@@ -59,6 +59,7 @@ fn clear(marks: &mut [u8])
         i += 1;
     }
 }
+
 // How far a sweep has come: edges begun and ended, edges finished, mutations placed, and the position to deal with next.
 pub struct Reach {
     pub begun: usize,

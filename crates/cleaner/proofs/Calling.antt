@@ -1,0 +1,51 @@
+-- The call: the check's refusal, or what comes after it.
+use mathlib.Core.Path.{_≡_, refl, sym, ap, _∙_}
+use mathlib.Core.Bool.{Bool, true, false}
+use mathlib.Core.List.{List}
+use Prim.Native.Nat.{ℕ, _<_, _≤_}
+use lib.ListN.{length}
+use Rattle.meaning.specs.declared.Refusal.{Refusal}
+use Rattle.meaning.specs.declared.Checked.{Checked}
+use Rattle.meaning.specs.declared.Checked.the-variants as checked
+use Rattle.meaning.specs.Words.{at}
+use Rattle.meaning.specs.Rows.{Tables}
+use Rattle.meaning.specs.Forest.{Ages, stands}
+use Rattle.meaning.specs.Answer.{Answer, done, limits, refusalOf, checkedOf}
+use Rattle.meaning.specs.Check.{checkAllThen, check}
+use Rattle.meaning.specs.Clean.{Outcome, cleaned, nodeMap, cleaning}
+use Rattle.accepted.specs.Calls.{check-tells}
+use Rattle.byrows.specs.Ground.{Ground}
+use Rattle.checker.proofs.After.{Hands, hands, all-after, refused, stops, goes-on, was-sound}
+use Rattle.cleaner.specs.Outcome.{nothing, ending, fitAnswer, afterCheck, cleaning-by, ending-refused}
+
+module _ (L : ℕ) (T : Tables) (S : List ℕ) (c : Checked) (e : checkedOf c ≡ check limits L T S) where
+  hand : Hands (checkAllThen limits L T S)
+  hand = hands (checkAllThen limits L T S) (all-after limits L T S)
+
+  found : checkedOf c ≡ checkAllThen limits L T S done
+  unfolding check
+  found = e
+
+  -- tables that the check does not refuse are ground to clean on
+  pub grounded : c ≡ checked.Sound → ((i : ℕ) → i < length (T .nodes .time) → at (T .nodes .time) i < Ages) → Ground limits L T S
+  unfolding check
+  grounded q y = let k : _ = check-tells limits L T S (was-sound (checkAllThen limits L T S) hand c found q) in record { sound = k .sound; listed = k .listed; young = y }
+
+  module _ (out : Tables) (outMap : List ℕ) where
+    abbrev rest : Answer
+    rest = fitAnswer (cleaned stands L T S) (nodeMap stands L T S) out outMap
+
+    pub call-refused : (r : Refusal) → c ≡ checked.Refused r → _≡_ {A = Outcome} (record { answer = refusalOf r; counts = nothing; cells = out; map = outMap }) (cleaning stands limits L T S out outMap)
+    call-refused r q = sym (
+        cleaning-by L T S out outMap (refusalOf r) (sym (stops (checkAllThen limits L T S) hand c found r q rest) ∙ ap checkedOf q)
+        ∙ ending-refused (refusalOf r) (cleaned stands L T S) (nodeMap stands L T S) out outMap (refused r)
+        )
+
+    pub call-done : c ≡ checked.Sound → (o : Outcome) → o ≡ afterCheck L T S out outMap → o ≡ cleaning stands limits L T S out outMap
+    unfolding afterCheck
+    call-done q o f = f ∙ sym (cleaning-by L T S out outMap rest (goes-on (checkAllThen limits L T S) hand c found q rest))
+
+-- what is stored of the result is what comes after the check
+pub after-check : (L : ℕ) (T : Tables) (S : List ℕ) (out : Tables) (outMap : List ℕ) (o : Outcome) → o ≡ ending (fitAnswer (cleaned stands L T S) (nodeMap stands L T S) out outMap) (cleaned stands L T S) (nodeMap stands L T S) out outMap → o ≡ afterCheck L T S out outMap
+unfolding afterCheck
+after-check L T S out outMap o e = e

@@ -1,0 +1,6 @@
+-- Laws of the cleaning call: what is written, and the rows kept and their order.
+pub mod Storing
+pub mod Ranking
+pub mod Tracing
+pub mod Working
+pub mod Calling

@@ -1,0 +1,146 @@
+-- A result that fits: what an answer 0 says of the room, and the answers by the working columns' numbers.
+use mathlib.Core.Path.{_≡_, refl, sym, ap, ap₂, _∙_}
+use mathlib.Core.Bool.{Bool, true, false}
+use mathlib.Core.List.{List, map}
+use mathlib.Core.Logic.{⊎-elim}
+use Prim.Native.Nat.{ℕ, zero, suc, min, _<_, _≤_}
+use native.Mathlib.Omega.{arith}
+use lib.Dec.{ltb}
+use lib.ListN.{length, take, length-map}
+use lib.Seq.{length-take-le}
+use borrow.Author.Tests.{ltb-true, ltb-false, lt-ltb, le-ltb}
+use Rattle.meaning.specs.Words.{or}
+use Rattle.meaning.specs.Rows.{Tables}
+use Rattle.meaning.specs.Answer.{Answer, answer, done, limits, refuse, accepted, put}
+use Rattle.laws.specs.Bools.{or-no, or-left}
+use Rattle.accepted.specs.Refusals.{Accepted, passed}
+use Rattle.writing.specs.Room.{Needs, Lent, needsOf, lentBy, roomAnswer, roomOf, room-answer}
+use Rattle.cleaner.specs.Work.{Base, Work, written, putAll, Written, Safe, Held}
+use Rattle.cleaner.specs.Outcome.{fitAnswer, ending, ending-done, ending-refused, nothing}
+
+-- the rows keep to the limits, and each column has a cell for each
+pub record RoomFor (n : Needs) (l : Lent) : Type 0 where
+  pub edges-few : n .edges ≤ limits .edges
+  pub time : n .nodes ≤ l .time
+  pub birth : n .nodes ≤ l .birth
+  pub left : n .edges ≤ l .left
+  pub right : n .edges ≤ l .right
+  pub parent : n .edges ≤ l .parent
+  pub child : n .edges ≤ l .child
+  pub position : n .sites ≤ l .position
+  pub ancestral : n .sites ≤ l .ancestral
+  pub site : n .mutations ≤ l .site
+  pub node : n .mutations ≤ l .node
+  pub derived : n .mutations ≤ l .derived
+  pub nodemap : n .rows ≤ l .nodemap
+
+-- no table lacks room where the code finds 0
+pub room-zero : (t : ℕ) (n : Needs) (l : Lent) → t ≡ 0 → roomOf t ≡ roomAnswer n l → roomAnswer n l ≡ done
+unfolding roomOf
+room-zero t n l z e = sym e ∙ ap roomOf z
+
+-- one table passed: its room, and what comes after
+table : (most room need t : ℕ) (rest : Answer) → Accepted (refuse (or (ltb most need) (ltb room need)) 13 t rest) → ((need ≤ most) × (need ≤ room)) × Accepted rest
+table most room need t rest h =
+    let p : _ = passed (or (ltb most need) (ltb room need)) 13 t rest (omega arith) h in
+    let q : _ = or-no (ltb most need) (ltb room need) (p .0) in
+    ((ltb-false most need (q .0), ltb-false room need (q .1)), p .1)
+
+pub room-for : (n : Needs) (l : Lent) → roomAnswer n l ≡ done → RoomFor n l
+unfolding roomAnswer accepted
+room-for n l e =
+    let h : Accepted (roomAnswer n l) = ap accepted e in
+    let a : _ = table (limits .nodes) (min (l .time) (l .birth)) (n .nodes) 1 _ h in
+    let b : _ = table (limits .edges) (min (l .left) (min (l .right) (min (l .parent) (l .child)))) (n .edges) 2 _ (a .1) in
+    let c : _ = table (limits .sites) (min (l .position) (l .ancestral)) (n .sites) 3 _ (b .1) in
+    let d : _ = table (limits .mutations) (min (l .site) (min (l .node) (l .derived))) (n .mutations) 4 _ (c .1) in
+    let f : _ = table (limits .nodes) (l .nodemap) (n .rows) 6 done (d .1) in
+    record {
+      edges-few = b .0 .0;
+      time = omega (arith, a .0 .1);
+      birth = omega (arith, a .0 .1);
+      left = omega (arith, b .0 .1);
+      right = omega (arith, b .0 .1);
+      parent = omega (arith, b .0 .1);
+      child = omega (arith, b .0 .1);
+      position = omega (arith, c .0 .1);
+      ancestral = omega (arith, c .0 .1);
+      site = omega (arith, d .0 .1);
+      node = omega (arith, d .0 .1);
+      derived = omega (arith, d .0 .1);
+      nodemap = f .0 .1;
+    }
+
+-- the rows that the working columns hold
+abbrev pub needsIn : Base → Work → Needs
+needsIn B W = record { nodes = W .nodes; edges = W .edges; sites = length (B .position); mutations = W .mutations; rows = length (B .time) }
+
+module _ (B : Base) (W : Work) (safe : Safe B W) (new : Tables) (newMap : List ℕ) (h : Held B W new newMap) where
+  nodes-count : length (new .nodes .time) ≡ W .nodes
+  unfolding written
+  nodes-count = ap (λ n. length (n .time)) (h .nodes) ∙ length-map (take (W .nodes) (W .kept)) _ ∙ length-take-le (W .nodes) (W .kept) (safe .kept-long)
+
+  muts-count : length (new .muts .site) ≡ W .mutations
+  unfolding written
+  muts-count = ap (λ n. length (n .site)) (h .muts) ∙ length-map (take (W .mutations) (W .moved)) _ ∙ length-take-le (W .mutations) (W .moved) (safe .moved-long)
+
+  sites-count : length (new .sites .position) ≡ length (B .position)
+  unfolding written
+  sites-count = ap (λ n. length (n .position)) (h .sites)
+
+  map-count : length newMap ≡ length (B .time)
+  map-count = ap length (h .nodemap) ∙ length-take-le (length (B .time)) (W .places) (safe .places-long)
+
+  edges-count : W .edges ≤ limits .edges → length (new .edges .left) ≡ W .edges
+  unfolding written
+  edges-count l = ap (λ n. length (n .left)) (h .edges l) ∙ length-map (take (W .edges) (W .order)) _ ∙ length-take-le (W .edges) (W .order) (safe .order-long l)
+
+  -- whether the edges pass limit or room, by the result and by the columns
+  edges-lack : (room : ℕ) → or (ltb (limits .edges) (length (new .edges .left))) (ltb room (length (new .edges .left))) ≡ or (ltb (limits .edges) (W .edges)) (ltb room (W .edges))
+  edges-lack room = go (ltb (limits .edges) (W .edges)) refl
+    where
+      go : (t : Bool) → ltb (limits .edges) (W .edges) ≡ t → or (ltb (limits .edges) (length (new .edges .left))) (ltb room (length (new .edges .left))) ≡ or (ltb (limits .edges) (W .edges)) (ltb room (W .edges))
+      go true e = or-left (ltb room (length (new .edges .left))) (lt-ltb (limits .edges) (length (new .edges .left)) (h .over (ltb-true (limits .edges) (W .edges) e))) ∙ sym (or-left (ltb room (W .edges)) e)
+      go false e = ap (λ z. or (ltb (limits .edges) z) (ltb room z)) (edges-count (ltb-false (limits .edges) (W .edges) e))
+
+  -- the answer after the check, by the columns' numbers
+  pub fit-answer : (out : Tables) (outMap : List ℕ) → fitAnswer new newMap out outMap ≡ roomAnswer (needsIn B W) (lentBy out outMap)
+  unfolding fitAnswer roomAnswer
+  fit-answer out outMap = room-answer new newMap out outMap ∙ same
+    where
+      l : Lent
+      l = lentBy out outMap
+
+      same : roomAnswer (needsOf new newMap) l ≡ roomAnswer (needsIn B W) l
+      same = λ i.
+          refuse (or (ltb (limits .nodes) (nodes-count i)) (ltb (min (l .time) (l .birth)) (nodes-count i))) 13 1
+          (refuse (edges-lack (min (l .left) (min (l .right) (min (l .parent) (l .child)))) i) 13 2
+          (refuse (or (ltb (limits .sites) (sites-count i)) (ltb (min (l .position) (l .ancestral)) (sites-count i))) 13 3
+          (refuse (or (ltb (limits .mutations) (muts-count i)) (ltb (min (l .site) (min (l .node) (l .derived))) (muts-count i))) 13 4
+          (refuse (or (ltb (limits .nodes) (map-count i)) (ltb (l .nodemap) (map-count i))) 13 6 done))))
+
+  module _ (out : Tables) (outMap : List ℕ) where
+    -- a table without room: nothing is written
+    pub stored-refused : (t : ℕ) → (t ≡ 0 → ⊥) → roomOf t ≡ roomAnswer (needsIn B W) (lentBy out outMap) → record { answer = answer 13 t; counts = nothing; cells = out; map = outMap } ≡ ending (fitAnswer new newMap out outMap) new newMap out outMap
+    unfolding roomOf accepted
+    stored-refused zero n e = absurd (n refl)
+    stored-refused (suc t) n e = sym (ap (λ (a : Answer). ending a new newMap out outMap) (fit-answer out outMap ∙ sym e) ∙ ending-refused (answer 13 (suc t)) new newMap out outMap refl)
+
+    -- all fits: the result stands at the front
+    pub stored-done : (t : ℕ) → t ≡ 0 → roomOf t ≡ roomAnswer (needsIn B W) (lentBy out outMap) → (out' : Tables) (outMap' : List ℕ) → Written B W out outMap out' outMap' → record { answer = done; counts = record { nodes = W .nodes; edges = W .edges; sites = length (B .position); mutations = W .mutations }; cells = out'; map = outMap' } ≡ ending (fitAnswer new newMap out outMap) new newMap out outMap
+    stored-done t z f out' outMap' w =
+        let e : roomAnswer (needsIn B W) (lentBy out outMap) ≡ done = room-zero t (needsIn B W) (lentBy out outMap) z f in
+        let l : W .edges ≤ limits .edges = room-for (needsIn B W) (lentBy out outMap) e .edges-few in
+        sym (
+        ap (λ (a : Answer). ending a new newMap out outMap) (fit-answer out outMap ∙ e)
+        ∙ ending-done new newMap out outMap
+        ∙ (λ i. record {
+          answer = done;
+          counts = record { nodes = nodes-count i; edges = edges-count l i; sites = sites-count i; mutations = muts-count i };
+          cells = (all l ∙ sym (w .cells)) i;
+          map = (ap (λ z. put z outMap) (h .nodemap) ∙ sym (w .nodemap)) i;
+        })
+        )
+      where
+        all : W .edges ≤ limits .edges → putAll new out ≡ putAll (written B W) out
+        all l = ap (λ (n : Tables). putAll n out) (λ i. record { nodes = h .nodes i; edges = h .edges l i; sites = h .sites i; muts = h .muts i })
