@@ -122,5 +122,5 @@ listed-most L T rows h n a b =
     let hx : length X ≤ length rows * 34 = lines-most (mapLine rows) 34 (length rows) (λ i l. map-most rows i (omega arith) (n .row i)) in
     omega (arith, ap length (listed-pieces L T rows), length-append (numbers 81 (L ∷ [])) (from-nodes T rows), length-append N (from-edges T rows), length-append E (from-sites T rows), length-append S (from-mutations T rows), length-append M X, numbers-one 81 L, word-digits L h)
 
-pub refused-most : (n r : ℕ) → n < 4294967296 → r < 4294967296 → length (refusedLine n r) ≤ 30
-refused-most n r a b = omega (arith, ap length (refused-pieces n r), length-append (32 ∷ decimal n) ((32 ∷ decimal r) ++ (10 ∷ [])), length-append (32 ∷ decimal r) (10 ∷ []), word-digits n a, word-digits r b)
+pub refused-most : (n r : ℕ) → n < 4294967296 → r < 18446744073709551616 → length (refusedLine n r) ≤ 40
+refused-most n r a b = omega (arith, ap length (refused-pieces n r), length-append (32 ∷ decimal n) ((32 ∷ decimal r) ++ (10 ∷ [])), length-append (32 ∷ decimal r) (10 ∷ []), word-digits n a, row-digits r b)

@@ -37,13 +37,13 @@ pub fn list(
 }
 
 // The line that a refusal prints.
-pub fn refused_line(number: u32, row: u32, out: &mut [u8]) -> usize
-    requires { ⌜ 30 ≤ length (now out) ⌝ }
+pub fn refused_line(number: u32, row: usize, out: &mut [u8]) -> usize
+    requires { ⌜ 40 ≤ length (now out) ⌝ }
     ensures { λ r. ⌜ Printed (refusedLine number row) (now (out .entry)) (now (out .exit)) r ⌝ }
 {
     let a = put::word(out, 0, b"refused");
     let b = put::field(out, a, number as usize);
-    let c = put::field(out, b, row as usize);
+    let c = put::field(out, b, row);
     put::byte(out, c, 10)
 }
 

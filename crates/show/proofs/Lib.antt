@@ -1,0 +1,3 @@
+-- Laws of the listing program's stages.
+pub mod Printing
+pub mod Keeping

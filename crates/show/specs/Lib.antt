@@ -1,0 +1,2 @@
+-- What a stored file prints.
+pub mod Shown

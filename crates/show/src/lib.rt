@@ -1,0 +1,267 @@
+// Cleaning a stored file and listing the result: what the program prints. What the bytes mean is in specs/.
+ghost use mathlib.Core.Path.{_≡_};
+ghost use Prim.Native.Nat.{_≤_};
+ghost use lib.ListN.{length, take};
+ghost use Rattle.meaning.specs.Answer.{limits, refusalOf};
+ghost use Rattle.listing.specs.Listing.{listed, refusedLine};
+ghost use Rattle.listing.specs.Written.{Printed, room};
+ghost use Rattle.show.specs.Shown.{Long, front, cleanShown, shown, answered};
+
+mod refusal; // refusal.rt: a refusal's number and row
+
+use cleaner::Cleaned;
+use meaning::Refusal;
+use stored::ReadAnswer;
+use stored::Rows;
+
+// The line that a refusal prints.
+fn refused(x: Refusal, out: &mut [u8]) -> usize
+    requires { ⌜ 40 ≤ length (now out) ⌝ }
+    ensures { λ r. ⌜ Printed (refusedLine (refusalOf x .number) (refusalOf x .row)) (now (out .entry)) (now (out .exit)) r ⌝ }
+{
+    let number = refusal::number_of(x);
+    let row = refusal::row_of(x);
+    listing::refused_line(number, row, out)
+}
+
+// The listing of so many rows of each table and of the node map.
+fn list_rows(
+    len: u32,
+    time: &[u32],
+    birth: &[u32],
+    left: &[u32],
+    right: &[u32],
+    parent: &[u32],
+    child: &[u32],
+    position: &[u32],
+    ancestral: &[u8],
+    site: &[u32],
+    node: &[u32],
+    derived: &[u8],
+    map: &[u32],
+    n: usize,
+    e: usize,
+    s: usize,
+    m: usize,
+    k: usize,
+    out: &mut [u8],
+) -> usize
+    requires { ⌜ Long (record { nodes = n; edges = e; sites = s; mutations = m }) (record { nodes = record { time = now time; birth = now birth }; edges = record { left = now left; right = now right; parent = now parent; child = now child }; sites = record { position = now position; ancestral = now ancestral }; muts = record { site = now site; node = now node; derived = now derived } }) × (k ≤ length (now map)) × (room n e s m k ≤ length (now out)) ⌝ }
+    ensures { λ r. ⌜ Printed (listed len (front (record { nodes = n; edges = e; sites = s; mutations = m }) (record { nodes = record { time = now (time .entry); birth = now (birth .entry) }; edges = record { left = now (left .entry); right = now (right .entry); parent = now (parent .entry); child = now (child .entry) }; sites = record { position = now (position .entry); ancestral = now (ancestral .entry) }; muts = record { site = now (site .entry); node = now (node .entry); derived = now (derived .entry) } })) (take k (now (map .entry)))) (now (out .entry)) (now (out .exit)) r ⌝ }
+{
+    listing::list(
+        len,
+        &time[..n],
+        &birth[..n],
+        &left[..e],
+        &right[..e],
+        &parent[..e],
+        &child[..e],
+        &position[..s],
+        &ancestral[..s],
+        &site[..m],
+        &node[..m],
+        &derived[..m],
+        &map[..k],
+        out,
+    )
+}
+
+// Tables cleaned and listed.
+fn clean_and_list(
+    len: u32,
+    time: &[u32],
+    birth: &[u32],
+    left: &[u32],
+    right: &[u32],
+    parent: &[u32],
+    child: &[u32],
+    position: &[u32],
+    ancestral: &[u8],
+    site: &[u32],
+    node: &[u32],
+    derived: &[u8],
+    samples: &[u32],
+    out: &mut [u8],
+) -> usize
+    requires { ⌜ 307200 ≤ length (now out) ⌝ }
+    ensures { λ r. ⌜ Printed (cleanShown len (record { nodes = record { time = now (time .entry); birth = now (birth .entry) }; edges = record { left = now (left .entry); right = now (right .entry); parent = now (parent .entry); child = now (child .entry) }; sites = record { position = now (position .entry); ancestral = now (ancestral .entry) }; muts = record { site = now (site .entry); node = now (node .entry); derived = now (derived .entry) } }) (now (samples .entry))) (now (out .entry)) (now (out .exit)) r ⌝ }
+{
+    let mut out_time = [0u32; meaning::NodeTable::MOST];
+    let mut out_birth = [0u32; meaning::NodeTable::MOST];
+    let mut out_left = [0u32; meaning::EdgeTable::MOST];
+    let mut out_right = [0u32; meaning::EdgeTable::MOST];
+    let mut out_parent = [0u32; meaning::EdgeTable::MOST];
+    let mut out_child = [0u32; meaning::EdgeTable::MOST];
+    let mut out_position = [0u32; meaning::SiteTable::MOST];
+    let mut out_ancestral = [0u8; meaning::SiteTable::MOST];
+    let mut out_site = [0u32; meaning::MutationTable::MOST];
+    let mut out_node = [0u32; meaning::MutationTable::MOST];
+    let mut out_derived = [0u8; meaning::MutationTable::MOST];
+    let mut out_map = [0u32; meaning::NodeTable::MOST];
+    let answer = cleaner::clean(
+        len,
+        time,
+        birth,
+        left,
+        right,
+        parent,
+        child,
+        position,
+        ancestral,
+        site,
+        node,
+        derived,
+        samples,
+        &mut out_time,
+        &mut out_birth,
+        &mut out_left,
+        &mut out_right,
+        &mut out_parent,
+        &mut out_child,
+        &mut out_position,
+        &mut out_ancestral,
+        &mut out_site,
+        &mut out_node,
+        &mut out_derived,
+        &mut out_map,
+    );
+    match answer {
+        Cleaned::Done {
+            nodes,
+            edges,
+            sites,
+            mutations,
+        } => list_rows(
+            len,
+            &out_time,
+            &out_birth,
+            &out_left,
+            &out_right,
+            &out_parent,
+            &out_child,
+            &out_position,
+            &out_ancestral,
+            &out_site,
+            &out_node,
+            &out_derived,
+            &out_map,
+            nodes,
+            edges,
+            sites,
+            mutations,
+            birth.len(),
+            out,
+        ),
+        Cleaned::Refused(x) => refused(x, out),
+    }
+}
+
+// So many rows of each table and of the samples, cleaned and listed.
+fn clean_rows(
+    len: u32,
+    time: &[u32],
+    birth: &[u32],
+    left: &[u32],
+    right: &[u32],
+    parent: &[u32],
+    child: &[u32],
+    position: &[u32],
+    ancestral: &[u8],
+    site: &[u32],
+    node: &[u32],
+    derived: &[u8],
+    samples: &[u32],
+    rows: Rows,
+    out: &mut [u8],
+) -> usize
+    requires { ⌜ Long (record { nodes = rows .nodes; edges = rows .edges; sites = rows .sites; mutations = rows .mutations }) (record { nodes = record { time = now time; birth = now birth }; edges = record { left = now left; right = now right; parent = now parent; child = now child }; sites = record { position = now position; ancestral = now ancestral }; muts = record { site = now site; node = now node; derived = now derived } }) × (rows .samples ≤ length (now samples)) × (307200 ≤ length (now out)) ⌝ }
+    ensures { λ r. ⌜ Printed (cleanShown len (front (record { nodes = rows .nodes; edges = rows .edges; sites = rows .sites; mutations = rows .mutations }) (record { nodes = record { time = now (time .entry); birth = now (birth .entry) }; edges = record { left = now (left .entry); right = now (right .entry); parent = now (parent .entry); child = now (child .entry) }; sites = record { position = now (position .entry); ancestral = now (ancestral .entry) }; muts = record { site = now (site .entry); node = now (node .entry); derived = now (derived .entry) } })) (take (rows .samples) (now (samples .entry)))) (now (out .entry)) (now (out .exit)) r ⌝ }
+{
+    let n = rows.nodes;
+    let e = rows.edges;
+    let s = rows.sites;
+    let m = rows.mutations;
+    let k = rows.samples;
+    clean_and_list(
+        len,
+        &time[..n],
+        &birth[..n],
+        &left[..e],
+        &right[..e],
+        &parent[..e],
+        &child[..e],
+        &position[..s],
+        &ancestral[..s],
+        &site[..m],
+        &node[..m],
+        &derived[..m],
+        &samples[..k],
+        out,
+    )
+}
+
+// What a stored file prints, at the front of out; the number of its bytes.
+pub fn show(bytes: &[u8], out: &mut [u8]) -> usize
+    requires { ⌜ 307200 ≤ length (now out) ⌝ }
+    ensures { λ r. ⌜ Printed (shown (now (bytes .entry))) (now (out .entry)) (now (out .exit)) r ⌝ }
+{
+    let mut time = [0u32; meaning::NodeTable::MOST];
+    let mut birth = [0u32; meaning::NodeTable::MOST];
+    let mut left = [0u32; meaning::EdgeTable::MOST];
+    let mut right = [0u32; meaning::EdgeTable::MOST];
+    let mut parent = [0u32; meaning::EdgeTable::MOST];
+    let mut child = [0u32; meaning::EdgeTable::MOST];
+    let mut position = [0u32; meaning::SiteTable::MOST];
+    let mut ancestral = [0u8; meaning::SiteTable::MOST];
+    let mut site = [0u32; meaning::MutationTable::MOST];
+    let mut node = [0u32; meaning::MutationTable::MOST];
+    let mut derived = [0u8; meaning::MutationTable::MOST];
+    let mut samples = [0u32; meaning::SampleTable::MOST];
+    let answer = stored::read(
+        bytes,
+        &mut time,
+        &mut birth,
+        &mut left,
+        &mut right,
+        &mut parent,
+        &mut child,
+        &mut position,
+        &mut ancestral,
+        &mut site,
+        &mut node,
+        &mut derived,
+        &mut samples,
+    );
+    match answer {
+        ReadAnswer::Done { len, rows } => clean_rows(
+            len,
+            &time,
+            &birth,
+            &left,
+            &right,
+            &parent,
+            &child,
+            &position,
+            &ancestral,
+            &site,
+            &node,
+            &derived,
+            &samples,
+            rows,
+            out,
+        ),
+        ReadAnswer::Refused(x) => refused(x, out),
+    }
+}
+
+// What the program prints for its input: a longer one than 01 takes has a line of its own.
+pub fn answer(bytes: &[u8], out: &mut [u8]) -> usize
+    requires { ⌜ 307200 ≤ length (now out) ⌝ }
+    ensures { λ r. ⌜ Printed (answered (now (bytes .entry))) (now (out .entry)) (now (out .exit)) r ⌝ }
+{
+    if 65536 < bytes.len() {
+        return listing::too_long(out);
+    }
+    show(bytes, out)
+}
