@@ -1,7 +1,7 @@
 -- The letter's three demands, each sentence with the theorem that says it. The functions are those that the code's promises cite.
 use mathlib.Core.Path.{_≡_}
 use mathlib.Core.Bool.{true, false}
-use mathlib.Core.List.{List}
+use mathlib.Core.List.{List, [], _∷_}
 use Prim.Native.Nat.{ℕ, _≤_, _<_}
 use lib.ListN.{length}
 use Rattle.meaning.specs.Words.{mem}
@@ -21,7 +21,7 @@ use Rattle.results.specs.Published.{induced-subtrees, no-unary-vertices}
 use Rattle.results.specs.Cleaning.{cleaned-passes, cleaned-allele-call, cleaned-twice}
 use Rattle.results.specs.Joining.{Together, joined-rows, joined-passes}
 use Rattle.demands.specs.First.{no-rows-written, refused-cleaning, refused-joining}
-use Rattle.demands.specs.Histories.{Lent, Call, tidied, untouched, NotRefused}
+use Rattle.demands.specs.Histories.{Lent, Call, joins, cleans, tidied, untouched, NotRefused}
 use Rattle.demands.specs.Third.{YoungBatches, last-tables-equal}
 
 -- ---- 1. "a refusal gives its number and its row, and no cell of ours is altered"
@@ -73,3 +73,9 @@ pub demand-3 : (m : Limits) (L : ℕ) (calls : List Call) (last : List ℕ) (len
     NotRefused stands m L calls last lent-tidied lent-untouched start start →
     cleaned stands L (tidied stands m L calls start) last ≡ cleaned stands L (untouched stands m L calls start) last
 demand-3 m L = last-tables-equal stands stands-profile m L
+
+-- the same for one cleaning before one batch: S lists every fish of the record that the batch or the last list names
+pub one-step : (m : Limits) (L : ℕ) (T : Tables) (B : BatchTables) (S last : List ℕ) (lent : Lent) (out-tidied out-untouched : Tables) (lent-tidied lent-untouched : Lent) → Young (T .nodes) → Young (B .nodes) →
+    NotRefused stands m L (cleans S lent ∷ joins B out-tidied out-untouched ∷ []) last lent-tidied lent-untouched T T →
+    cleaned stands L (joined L (cleaned stands L T S) B) last ≡ cleaned stands L (joined L T B) last
+one-step m L T B S last lent o p q r y z a = demand-3 m L (cleans S lent ∷ joins B o p ∷ []) last q r T y (z, Prim.tt) a
