@@ -7,12 +7,12 @@ use native.Mathlib.Omega.{arith}
 use lib.ListN.{length, take, drop, length-append}
 use Rattle.meaning.specs.Rows.{Tables}
 use Rattle.meaning.specs.Forest.{stands}
-use Rattle.meaning.specs.Answer.{Answer, done, limits, accepted, put, refusalOf}
+use Rattle.meaning.specs.Answer.{done, limits, accepted, put, refusalOf}
 use Rattle.meaning.specs.declared.Refusal.{Refusal}
 use Rattle.meaning.specs.Lent.{Counts}
-use Rattle.meaning.specs.Clean.{Outcome, cleaning}
+use Rattle.meaning.specs.Clean.{cleaning}
 use Rattle.accepted.specs.Numbers.{refusal-refuses}
-use Rattle.stored.specs.Calls.{Reading, reading}
+use Rattle.stored.specs.Calls.{reading}
 use Rattle.listing.specs.Listing.{listed, refusedLine, tooLong}
 use Rattle.listing.specs.Written.{Printed}
 use Rattle.show.specs.Shown.{zeros, blank, front, printedBy, outcomeShown, cleanShown, readingShown, shown, answered}

@@ -1,4 +1,5 @@
 // Cleaning a stored file and listing the result: what the program prints. What the bytes mean is in specs/.
+// The columns read and those cleaned stand on the stack, in 86,528 and 89,600 bytes; the cleaner has its own beside them.
 ghost use mathlib.Core.Path.{_≡_};
 ghost use Prim.Native.Nat.{_≤_};
 ghost use lib.ListN.{length, take};

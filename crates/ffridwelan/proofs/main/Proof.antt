@@ -5,11 +5,6 @@ use borrow.Author.Needs.{needs}
 use Rattle.show.proofs.Printing.{printed-within}
 use Rattle.ffridwelan.proofs.main.Statement.{statement}
 use Rattle.ffridwelan.proofs.main.Tie as tie
-use Rattle.ffridwelan.proofs.main.Reads as reads
-use Rattle.ffridwelan.proofs.main.Lts as lts
-use Rattle.io.proofs.read_full.Reads as read-full-reads
-use Rattle.io.proofs.write_all.Reads as write-all-reads
-use Rattle.show.proofs.answer.Reads as answer-reads
 
 slice-aggregate-read-full : tie.Need-slice-aggregate-read-full
 slice-aggregate-read-full c = search needs

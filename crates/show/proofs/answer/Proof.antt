@@ -3,10 +3,6 @@ use borrow.Author.Needs.{needs}
 use Rattle.show.proofs.Printing.{printed-as, answered-long, answered-short}
 use Rattle.show.proofs.answer.Statement.{statement}
 use Rattle.show.proofs.answer.Tie as tie
-use Rattle.show.proofs.answer.Reads as reads
-use Rattle.show.proofs.answer.Lts as lts
-use Rattle.listing.proofs.too_long.Reads as too-long-reads
-use Rattle.show.proofs.show.Reads as show-reads
 
 too-long-requires : tie.Need-too-long-requires
 too-long-requires c κs = search needs

@@ -1,7 +1,7 @@
 -- `show::clean_and_list` meets its contract: the cleaning's line or its listing, whose rows keep to the limits. Assumes nothing.
 use mathlib.Core.Path.{_≡_, sym, ap, _∙_}
 use mathlib.Core.List.{List}
-use Prim.Native.Nat.{ℕ, _≤_}
+use Prim.Native.Nat.{ℕ}
 use lib.ListN.{length}
 use Rattle.meaning.specs.Rows.{Tables}
 use Rattle.meaning.specs.Forest.{stands}
@@ -17,11 +17,6 @@ use native.Mathlib.Omega.{arith}
 use borrow.Author.Needs.{needs}
 use Rattle.show.proofs.clean_and_list.Statement.{statement}
 use Rattle.show.proofs.clean_and_list.Tie as tie
-use Rattle.show.proofs.clean_and_list.Reads as reads
-use Rattle.show.proofs.clean_and_list.Lts as lts
-use Rattle.show.proofs.list_rows.Reads as list-rows-reads
-use Rattle.show.proofs.refused.Reads as refused-reads
-use Rattle.cleaner.proofs.clean.Reads as clean-reads
 
 slice-aggregate-clean : tie.Need-slice-aggregate-clean
 slice-aggregate-clean c = search needs

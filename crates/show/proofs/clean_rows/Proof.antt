@@ -2,13 +2,9 @@
 use lib.Seq.{length-take-le}
 use mathlib.Core.Path.{sym}
 use Rattle.show.specs.Shown.{front}
-use native.Mathlib.Omega.{arith}
 use borrow.Author.Needs.{needs}
 use Rattle.show.proofs.clean_rows.Statement.{statement}
 use Rattle.show.proofs.clean_rows.Tie as tie
-use Rattle.show.proofs.clean_rows.Reads as reads
-use Rattle.show.proofs.clean_rows.Lts as lts
-use Rattle.show.proofs.clean_and_list.Reads as clean-and-list-reads
 
 slice-aggregate-clean-and-list : tie.Need-slice-aggregate-clean-and-list
 slice-aggregate-clean-and-list c = sym (length-take-le (c .before .before .before .before .before .before .before .before .before .before .before .before .before .before .args .rows .nodes) (c .before .before .before .before .before .before .before .before .before .before .before .before .before .before .args .time .now) (c .before .before .before .before .before .before .before .before .before .before .before .before .before .before .pre .0 .time))

@@ -6,9 +6,6 @@ use native.Mathlib.Omega.{arith}
 use borrow.Author.Needs.{needs}
 use Rattle.show.proofs.list_rows.Statement.{statement}
 use Rattle.show.proofs.list_rows.Tie as tie
-use Rattle.show.proofs.list_rows.Reads as reads
-use Rattle.show.proofs.list_rows.Lts as lts
-use Rattle.listing.proofs.list.Reads as list-reads
 
 slice-aggregate-list : tie.Need-slice-aggregate-list
 slice-aggregate-list c = sym (length-take-le (c .before .before .before .before .before .before .before .before .before .before .before .before .before .before .args .n) (c .before .before .before .before .before .before .before .before .before .before .before .before .before .before .args .time .now) (c .before .before .before .before .before .before .before .before .before .before .before .before .before .before .pre .0 .time))

@@ -1,14 +1,8 @@
 -- `show::refused` meets its contract: the line of the number and the row. Assumes nothing.
 use Rattle.show.proofs.Printing.{printed-as, refused-as}
-use native.Mathlib.Omega.{arith}
 use borrow.Author.Needs.{needs}
 use Rattle.show.proofs.refused.Statement.{statement}
 use Rattle.show.proofs.refused.Tie as tie
-use Rattle.show.proofs.refused.Reads as reads
-use Rattle.show.proofs.refused.Lts as lts
-use Rattle.listing.proofs.refused_line.Reads as refused-line-reads
-use Rattle.show.proofs.refusal.number_of.Reads as number-of-reads
-use Rattle.show.proofs.refusal.row_of.Reads as row-of-reads
 
 number-of-requires : tie.Need-number-of-requires
 number-of-requires c κs = search needs

@@ -13,15 +13,9 @@ use Rattle.stored.specs.declared.ReadAnswer.{ReadAnswer}
 use Rattle.show.specs.Shown.{zeros, blank, Long}
 use Rattle.show.proofs.Printing.{printed-as, read-listed, read-refused}
 use Rattle.show.proofs.Keeping.{read-long}
-use native.Mathlib.Omega.{arith}
 use borrow.Author.Needs.{needs}
 use Rattle.show.proofs.show.Statement.{statement}
 use Rattle.show.proofs.show.Tie as tie
-use Rattle.show.proofs.show.Reads as reads
-use Rattle.show.proofs.show.Lts as lts
-use Rattle.show.proofs.clean_rows.Reads as clean-rows-reads
-use Rattle.show.proofs.refused.Reads as refused-reads
-use Rattle.stored.proofs.read.Reads as read-reads
 
 slice-aggregate-read : tie.Need-slice-aggregate-read
 slice-aggregate-read c = search needs

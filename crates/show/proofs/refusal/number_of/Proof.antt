@@ -2,12 +2,9 @@
 use mathlib.Core.Path.{sym, ap}
 use Rattle.meaning.specs.Answer.{refusalOf}
 use Rattle.meaning.specs.declared.Refusal.{Refusal}
-use native.Mathlib.Omega.{arith}
 use borrow.Author.Needs.{needs}
 use Rattle.show.proofs.refusal.number_of.Statement.{statement}
 use Rattle.show.proofs.refusal.number_of.Tie as tie
-use Rattle.show.proofs.refusal.number_of.Reads as reads
-use Rattle.show.proofs.refusal.number_of.Lts as lts
 
 enum-told : tie.Need-enum-told
 enum-told c = search needs
