@@ -14,3 +14,4 @@ pub mod Trees
 pub mod Marginal
 pub mod Published
 pub mod Witness
+pub mod Only
