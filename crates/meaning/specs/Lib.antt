@@ -9,6 +9,7 @@ pub mod Clean
 pub mod Allele
 pub mod Join
 pub mod Listing
+pub mod Called
 pub mod ByHand
 pub mod Errors
 pub mod Small

@@ -8,8 +8,8 @@ use Rattle.tree.proofs.Touching.{noted-none, noted-then}
 use Rattle.tree.proofs.Sweeping.{plan-on, end-child, end-had, end-one, end-all}
 use native.Mathlib.Omega.{arith}
 use borrow.Author.Needs.{needs}
-use Rattle.tree.proofs.sweep.end_edges.Statement.{statement}
-use Rattle.tree.proofs.sweep.end_edges.Tie as tie
+use Rattle.tree.proofs.along.end_edges.Statement.{statement}
+use Rattle.tree.proofs.along.end_edges.Tie as tie
 
 abbrev Inv-loop : tie.InvT-loop
 Inv-loop time sample parent₀ count₀ sum₀ up₀ touched₀ left right above child bl br i j0 k0 x j₀ k₀ parent count sum up touched j k =

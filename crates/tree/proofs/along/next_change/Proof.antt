@@ -3,8 +3,8 @@ use mathlib.Core.Path.{ap, _∙_}
 use Prim.Native.Nat.{ℕ}
 use Rattle.tree.specs.Sweep.{nextKey, nextChange}
 use borrow.Author.Needs.{needs}
-use Rattle.tree.proofs.sweep.next_change.Statement.{statement}
-use Rattle.tree.proofs.sweep.next_change.Tie as tie
+use Rattle.tree.proofs.along.next_change.Statement.{statement}
+use Rattle.tree.proofs.along.next_change.Tie as tie
 
 next-key-requires : tie.Need-next-key-requires
 next-key-requires c κs = search needs

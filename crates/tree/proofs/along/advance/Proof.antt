@@ -6,8 +6,8 @@ use Rattle.tree.proofs.Moving.{set-off, turn, arrive}
 use Rattle.tree.proofs.Meaning.{tree-at}
 use native.Mathlib.Omega.{arith}
 use borrow.Author.Needs.{needs}
-use Rattle.tree.proofs.sweep.advance.Statement.{statement}
-use Rattle.tree.proofs.sweep.advance.Tie as tie
+use Rattle.tree.proofs.along.advance.Statement.{statement}
+use Rattle.tree.proofs.along.advance.Tie as tie
 
 end-edges-requires : tie.Need-end-edges-requires
 end-edges-requires c κs = let sw : _ = c .before .before .before .before .before .before .before .before .before .before .before .before .before .before .before .before .before .before .pre .0 in (sw .kept, sw .plan, set-off sw, omega (arith, c .before .before .before .before .before .before .before .before .before .before .before .before .before .before .before .before .before .before .pre .1))

@@ -8,8 +8,8 @@ use Rattle.tree.proofs.Touching.{noted-none, noted-then}
 use Rattle.tree.proofs.Sweeping.{plan-on, begin-enters, begin-one, begin-all}
 use native.Mathlib.Omega.{arith}
 use borrow.Author.Needs.{needs}
-use Rattle.tree.proofs.sweep.begin_edges.Statement.{statement}
-use Rattle.tree.proofs.sweep.begin_edges.Tie as tie
+use Rattle.tree.proofs.along.begin_edges.Statement.{statement}
+use Rattle.tree.proofs.along.begin_edges.Tie as tie
 
 abbrev Inv-loop : tie.InvT-loop
 Inv-loop time sample parent₀ count₀ sum₀ up₀ touched₀ left right above child bl br i0 j k0 x i₀ k₀ parent count sum up touched i k =

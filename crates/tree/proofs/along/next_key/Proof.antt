@@ -2,8 +2,8 @@
 use mathlib.Core.Path.{sym}
 use Rattle.tree.proofs.Moving.{key-past, key-low, key-high}
 use borrow.Author.Needs.{needs}
-use Rattle.tree.proofs.sweep.next_key.Statement.{statement}
-use Rattle.tree.proofs.sweep.next_key.Tie as tie
+use Rattle.tree.proofs.along.next_key.Statement.{statement}
+use Rattle.tree.proofs.along.next_key.Tie as tie
 
 returns : tie.Need-returns
 returns c = sym (key-past _ _ _ _ (c .if1 .taken))
