@@ -2,6 +2,7 @@
 pub mod Totals
 pub mod Reading
 pub mod Mending
+pub mod Nearest
 pub mod OneEdge
 pub mod Only
 pub mod Up

@@ -78,19 +78,31 @@ pub fn heir(time: &[u32], sample: &[u8], parent: &[u32], count: &[u32], sum: &[u
     low(time, sample, parent, count, sum, s)
 }
 
-// The first live row at or above p.
+// The nearest live row at or above q: the row that stands nearest once a live child comes to hang below it.
+// It calls itself on the parent; the number of older nodes falls.
+fn nearest(time: &[u32], sample: &[u8], parent: &[u32], count: &[u32], q: u32) -> u32
+    requires { ⌜ (length (now sample) ≡ length (now parent)) × (length (now count) ≡ length (now parent)) × (length (now parent) ≤ none) × Grows (now time) (now parent) × (q < length (now parent)) ⌝ }
+    ensures { λ r. ⌜ Stop (now (parent .entry)) (live (now (sample .entry)) (now (count .entry))) r q ⌝ }
+{
+    if alive(sample, count, q) {
+        return q;
+    }
+    let o = parent[q as usize];
+    if o == NONE {
+        return NONE;
+    }
+    nearest(time, sample, parent, count, o)
+}
+
+// The first live row at or above p, where p is a row or none.
 pub fn stop(time: &[u32], sample: &[u8], parent: &[u32], count: &[u32], p: u32) -> u32
     requires { ⌜ (length (now sample) ≡ length (now parent)) × (length (now count) ≡ length (now parent)) × (length (now parent) ≤ none) × Grows (now time) (now parent) × ((p ≡ none → ⊥) → p < length (now parent)) ⌝ }
     ensures { λ r. ⌜ Stop (now (parent .entry)) (live (now (sample .entry)) (now (count .entry))) r p ⌝ }
 {
-    let mut q = p;
-    while q != NONE {
-        if alive(sample, count, q) {
-            return q;
-        }
-        q = parent[q as usize];
+    if p == NONE {
+        return NONE;
     }
-    NONE
+    nearest(time, sample, parent, count, p)
 }
 
 // q0 lacks its live child d0; the answer is the row where mending ends.
