@@ -1,0 +1,3 @@
+-- That a call's outcome fixes the code's answer and every lent cell.
+pub mod Cleaning
+pub mod Storing
