@@ -27,7 +27,7 @@ fn stands_at(sample: &[u8], count: &[u32], u: u32) -> bool
     if 0 < sample[u as usize] {
         return true;
     }
-    0 < count[u as usize]
+    1 < count[u as usize]
 }
 
 // q gets the live child d.
