@@ -62,7 +62,7 @@ use Rattle.segments.proofs.find.Key.{name as #segments·find}
 use Rattle.segments.proofs.find as find
 use Rattle.segments.proofs.find.Statement as stated
 use Rattle.segments.proofs.find.Code as code
-use Rattle.segments.proofs.find.Code.Mir as mir
+use Rattle.segments.proofs.find.Code.Mir as steps
 
 abbrev stayed : Stays (find.ended .signature .params) (find.ended .kept)
 stayed = (stay-none-slice (0 ∷ []) tt (plain (λ _. T.the-row)) yes, (stay-none (λ _. u32) yes, tt))
@@ -168,16 +168,16 @@ module _ {M : Type 1} (𝓤 : URA M) (H : Heap 𝓤) (A : Atoms 𝓤) (W : Given
 
     -- a turn ends nearer to the slice's end, or the loop is left and the rest of the body runs
     abbrev Turned : Upto → Out → SProp 𝓤
-    Turned i = afterTurn 𝓤 H (Below 𝓤 H A Nearer At i) (afterBlock 𝓤 H (afterSeq 𝓤 H (Wp 𝓤 H C Λ En mir.t-3 (atReturn 𝓤 H En Post)) (atReturn 𝓤 H En Post)))
+    Turned i = afterTurn 𝓤 H (Below 𝓤 H A Nearer At i) (afterBlock 𝓤 H (afterSeq 𝓤 H (Wp 𝓤 H C Λ En steps.t-3 (atReturn 𝓤 H En Post)) (atReturn 𝓤 H En Post)))
 
     -- past the last segment: none holds x
-    ends : (i : Upto) → ltb (i .0) n ≡ false → Sq W (At i) (runs C Λ En mir.turn-1 (anyQ (Turned i)))
+    ends : (i : Upto) → ltb (i .0) n ≡ false → Sq W (At i) (runs C Λ En steps.turn-1 (anyQ (Turned i)))
     unfolding afterTurn
     ends i over =
         assigns ! (of-opd ! (load ! (from ! (fld ! refl (stop !))) (look-in ! 19 (sub ! 1 refl (whole !))))) (from ! (stop !)) (init ! 11 refl (tt, record { fits = gn .0 })) $
         assigns ! (bin ! (load ! (from ! (stop !)) (look ! 15 refl)) (load ! (from ! (stop !)) (look ! 11 refl)) tt) (from ! (stop !)) (init ! 9 refl (tt, tt)) $
         rewrite ! 9 (λ (t : Bool). ‵ (fat fullShare tyBool l₆ 0 (vbool t))) over refl $
-        leaves-loop ! (load ! (from ! (stop !)) (look ! 9 refl)) $ exec ! C Λ En mir.t-3 (atRet En Post) $
+        leaves-loop ! (load ! (from ! (stop !)) (look ! 9 refl)) $ exec ! C Λ En steps.t-3 (atRet En Post) $
         assigns ! (of-opd ! (neg-lit ! tt)) (from ! (stop !)) (init ! 21 refl (tt, record { fits = lit< tt })) $
         returns ! (look ! 21 refl) $ forget ! 9 refl $ forget ! 11 refl $ forget ! 15 refl $ forget ! 17 refl $ forget ! 19 refl $ forget ! 21 refl $
         move ! (21 ∷ 22 ∷ []) $ free1 ! $ move ! (19 ∷ 20 ∷ []) $ free1 ! $ move ! (17 ∷ 18 ∷ []) $ free1 ! $ move ! (15 ∷ 16 ∷ []) $ free1 ! $ move ! (13 ∷ 14 ∷ []) $ free1 ! $
@@ -185,7 +185,7 @@ module _ {M : Type 1} (𝓤 : URA M) (H : Heap 𝓤) (A : Atoms 𝓤) (W : Given
         keep ! (1 ∷ 2 ∷ 0 ∷ []) $ by ! (exits 4294967295 (row-missing ys x (i .0) (i .1) (ltb-false (i .0) n over) (i .2)) (lit< tt))
 
     -- at segment i: it holds x and its row is returned, or the next one is looked at
-    looks : (i : Upto) → ltb (i .0) n ≡ true → Sq W (At i) (runs C Λ En mir.turn-1 (anyQ (Turned i)))
+    looks : (i : Upto) → ltb (i .0) n ≡ true → Sq W (At i) (runs C Λ En steps.turn-1 (anyQ (Turned i)))
     unfolding afterTurn
     looks i less =
         assigns ! (of-opd ! (load ! (from ! (fld ! refl (stop !))) (look-in ! 19 (sub ! 1 refl (whole !))))) (from ! (stop !)) (init ! 11 refl (tt, record { fits = gn .0 })) $
@@ -229,10 +229,10 @@ module _ {M : Type 1} (𝓤 : URA M) (H : Heap 𝓤) (A : Atoms 𝓤) (W : Given
         next-fits : i .0 + 1 < 2 ^ 64
         next-fits = lt-of-le-of-lt (add-one-le l) (gn .0)
 
-    turns : (i : Upto) → Sq W (At i) (runs C Λ En mir.turn-1 (anyQ (Turned i)))
+    turns : (i : Upto) → Sq W (At i) (runs C Λ En steps.turn-1 (anyQ (Turned i)))
     turns i = go (ltb (i .0) n) refl
       where
-        go : (t : Bool) → ltb (i .0) n ≡ t → Sq W (At i) (runs C Λ En mir.turn-1 (anyQ (Turned i)))
+        go : (t : Bool) → ltb (i .0) n ≡ t → Sq W (At i) (runs C Λ En steps.turn-1 (anyQ (Turned i)))
         go true e = looks i e
         go false e = ends i e
 
