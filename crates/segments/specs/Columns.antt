@@ -56,7 +56,7 @@ module _ (ls rs ws : List ℕ) where
 
 -- ---- the columns of a list of segments make that list again
 -- a segment of zeros, with which cells past the end are read
-abbrev zeros : Segment
+abbrev pub zeros : Segment
 zeros = record { left = 0; right = 0; row = 0 }
 
 module _ (l : List Segment) where
