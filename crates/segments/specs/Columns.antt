@@ -1,5 +1,5 @@
 -- The segments that three columns make, and back.
-use mathlib.Core.Path.{_≡_, refl, sym, ap, _∙_}
+use mathlib.Core.Path.{_≡_, sym, ap, _∙_}
 use mathlib.Core.List.{List, map}
 use mathlib.Core.Bool.{true, false}
 use Prim.Native.Nat.{ℕ, min, _+_, _<_, _≤_}
