@@ -8,6 +8,7 @@ ghost use Rattle.runs.specs.Runs.{Room, Opened};
 ghost use Rattle.runs.specs.Promises.{edgeOf, Pushed, Ready, RowSettled, ChangeSettled, RowClosed, Closed};
 
 // 01: "ancestral segments: a left, a right and an output row". Here the row is the parent row of a run.
+#[repr(C)]
 pub struct Segment {
     pub left: u32,
     pub right: u32,

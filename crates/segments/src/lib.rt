@@ -55,3 +55,11 @@ pub fn find(s: &[Segment], x: u32) -> u32
     }
     MapTable::NONE
 }
+
+// The same, called from C with a pointer to the segments and their number.
+#[no_mangle]
+pub extern "C" fn ffr_find_segment(s: &[Segment], x: u32) -> u32
+    ensures { λ r. ⌜ r ≡ rowAt (now (s .entry)) x ⌝ }
+{
+    find(s, x)
+}
