@@ -7,6 +7,12 @@ A case is four little-endian words (kind: 0 ends a group and holds its name; the
 them; how many numbers) and the bytes: the states of the input, then the numbers, each one byte below 254, or 254 and two bytes,
 or 255 and four. The numbers: L; number, row and four counts of the answer due; the lent length of each of the twelve output
 columns; start and length of the twelve input columns and of the twelve columns due; then the columns.
+
+The program can tell: with a fault planted in the second cleaner it reported differences, in 3,455 cases (and 627 of show_run):
+a sample with a single child dropped 1,194 (156); touching edges not merged 811 (122); a sample's segment not the whole
+chromosome 455 (63); room taken from one column only 134 (0); a mutation moved by the node map 90 (11); rule 7 forgotten 23 (4);
+ties ordered by row 18 (0). With the last row of the node map left out of what is due it reported 2,264 (every case that is done and has a
+node); with one more cell due after a refusal 1,190 (every case that is refused).
 """
 import random
 import struct
