@@ -21,7 +21,7 @@ import sys
 sys.dont_write_bytecode = True
 import histories
 from histories import copied, tables
-from second import LONGEST, MOST, NONE, TABLES, answer
+from second import LONGEST, NONE, TABLES, answer
 
 ROOM = [1024] * 2 + [4096] * 4 + [512] * 2 + [1024] * 4
 
@@ -113,7 +113,7 @@ def limits():
 
 def third():
     """Demand 3's premise: 401 had to be listed."""
-    second = [501, 401]
+    second = [401, 501]
     first = answer(10, changed(LISTING, (11, None, [501, 502])), ROOM)[3]
     after = changed(first[:11] + [second])
     for columns, edge in ((after, (4, 6)), (changed(LISTING, (11, None, second)), (0, 10))):
