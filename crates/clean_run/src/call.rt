@@ -1,0 +1,266 @@
+// One call of the cleaner on the columns of a case, and what came of it held to what is due.
+ghost use Prim.Native.Nat.{_<_};
+use crate::cells;
+use cleaner::Cleaned;
+use meaning::Refusal;
+
+// Cells of lent columns: two more than the limit, so that a room of one more still has a cell past it.
+const NODES: usize = meaning::NodeTable::MOST + 2;
+
+const EDGES: usize = meaning::EdgeTable::MOST + 2;
+
+const SITES: usize = meaning::SiteTable::MOST + 2;
+
+const MUTATIONS: usize = meaning::MutationTable::MOST + 2;
+
+// Where the parts of a case's head start: L, the answer, the lent lengths, then start and length of each input column and of each due.
+const LENGTH: usize = 0;
+
+const ANSWER: usize = 1;
+
+const LENT: usize = 7;
+
+const GIVEN: usize = 19;
+
+const DUE: usize = 43;
+
+// What a call answered, by 01's numbers.
+struct Seen {
+    number: u32,
+    row: usize,
+    nodes: usize,
+    edges: usize,
+    sites: usize,
+    mutations: usize,
+}
+
+fn refusal(number: u32, row: usize) -> Seen {
+    Seen {
+        number,
+        row,
+        nodes: 0,
+        edges: 0,
+        sites: 0,
+        mutations: 0,
+    }
+}
+
+// Number and row of a refusal; 99 for one that a cleaning never gives.
+fn refused(x: Refusal) -> Seen {
+    match x {
+        Refusal::Ragged(t) => refusal(1, t),
+        Refusal::TooMany(t) => refusal(2, t),
+        Refusal::Length => refusal(3, 0),
+        Refusal::BirthRepeated(i) => refusal(4, i),
+        Refusal::EdgeBroken(i) => refusal(5, i),
+        Refusal::EdgeOrder(i) => refusal(6, i),
+        Refusal::EdgeShared(i) => refusal(7, i),
+        Refusal::SiteBroken(i) => refusal(8, i),
+        Refusal::MutationBroken(i) => refusal(9, i),
+        Refusal::MutationAbove(i) => refusal(10, i),
+        Refusal::SampleUnknown(i) => refusal(11, i),
+        Refusal::SampleRepeated(i) => refusal(12, i),
+        Refusal::NoRoom(t) => refusal(13, t),
+        _ => refusal(99, 0),
+    }
+}
+
+fn answered(r: Cleaned) -> Seen {
+    match r {
+        Cleaned::Refused(x) => refused(x),
+        Cleaned::Done {
+            nodes,
+            edges,
+            sites,
+            mutations,
+        } => Seen {
+            number: 0,
+            row: 0,
+            nodes,
+            edges,
+            sites,
+            mutations,
+        },
+    }
+}
+
+fn due(w: &[u32], at: usize) -> usize {
+    cells::get(w, at) as usize
+}
+
+// Whether number, row and counts are those due.
+fn agrees(w: &[u32], s: Seen) -> bool {
+    if s.number != cells::get(w, ANSWER) {
+        return false;
+    }
+    if s.row != due(w, ANSWER + 1) {
+        return false;
+    }
+    if s.nodes != due(w, ANSWER + 2) {
+        return false;
+    }
+    if s.edges != due(w, ANSWER + 3) {
+        return false;
+    }
+    if s.sites != due(w, ANSWER + 4) {
+        return false;
+    }
+    s.mutations == due(w, ANSWER + 5)
+}
+
+// Whether a column of words is the one due.
+fn same(w: &[u32], at: usize, a: &[u32]) -> bool
+    requires { ⌜ at < 1000 ⌝ }
+{
+    cells::holds(a, cells::column(w, at))
+}
+
+fn same_states(w: &[u32], at: usize, a: &[u8]) -> bool
+    requires { ⌜ at < 1000 ⌝ }
+{
+    cells::holds_states(a, cells::column(w, at))
+}
+
+// The cleaner on the given columns, with the lent length of each column.
+fn clean_lent(
+    w: &[u32],
+    bytes: &[u8],
+    out_time: &mut [u32],
+    out_birth: &mut [u32],
+    out_left: &mut [u32],
+    out_right: &mut [u32],
+    out_parent: &mut [u32],
+    out_child: &mut [u32],
+    out_position: &mut [u32],
+    out_ancestral: &mut [u8],
+    out_site: &mut [u32],
+    out_node: &mut [u32],
+    out_derived: &mut [u8],
+    out_map: &mut [u32],
+) -> Seen {
+    let time = cells::fit(w, LENT + 0, out_time.len());
+    let birth = cells::fit(w, LENT + 1, out_birth.len());
+    let left = cells::fit(w, LENT + 2, out_left.len());
+    let right = cells::fit(w, LENT + 3, out_right.len());
+    let parent = cells::fit(w, LENT + 4, out_parent.len());
+    let child = cells::fit(w, LENT + 5, out_child.len());
+    let position = cells::fit(w, LENT + 6, out_position.len());
+    let ancestral = cells::fit(w, LENT + 7, out_ancestral.len());
+    let site = cells::fit(w, LENT + 8, out_site.len());
+    let node = cells::fit(w, LENT + 9, out_node.len());
+    let derived = cells::fit(w, LENT + 10, out_derived.len());
+    let map = cells::fit(w, LENT + 11, out_map.len());
+    answered(cleaner::clean(
+        cells::get(w, LENGTH),
+        cells::column(w, GIVEN + 0),
+        cells::column(w, GIVEN + 2),
+        cells::column(w, GIVEN + 4),
+        cells::column(w, GIVEN + 6),
+        cells::column(w, GIVEN + 8),
+        cells::column(w, GIVEN + 10),
+        cells::column(w, GIVEN + 12),
+        cells::states(bytes, cells::get(w, GIVEN + 14), cells::get(w, GIVEN + 15)),
+        cells::column(w, GIVEN + 16),
+        cells::column(w, GIVEN + 18),
+        cells::states(bytes, cells::get(w, GIVEN + 20), cells::get(w, GIVEN + 21)),
+        cells::column(w, GIVEN + 22),
+        &mut out_time[..time],
+        &mut out_birth[..birth],
+        &mut out_left[..left],
+        &mut out_right[..right],
+        &mut out_parent[..parent],
+        &mut out_child[..child],
+        &mut out_position[..position],
+        &mut out_ancestral[..ancestral],
+        &mut out_site[..site],
+        &mut out_node[..node],
+        &mut out_derived[..derived],
+        &mut out_map[..map],
+    ))
+}
+
+// Whether the columns of a table are those due.
+fn same_nodes(w: &[u32], time: &[u32], birth: &[u32], map: &[u32]) -> bool {
+    if !same(w, DUE, time) {
+        return false;
+    }
+    if !same(w, DUE + 2, birth) {
+        return false;
+    }
+    same(w, DUE + 22, map)
+}
+
+fn same_edges(w: &[u32], left: &[u32], right: &[u32], parent: &[u32], child: &[u32]) -> bool {
+    if !same(w, DUE + 4, left) {
+        return false;
+    }
+    if !same(w, DUE + 6, right) {
+        return false;
+    }
+    if !same(w, DUE + 8, parent) {
+        return false;
+    }
+    same(w, DUE + 10, child)
+}
+
+fn same_sites(w: &[u32], position: &[u32], ancestral: &[u8]) -> bool {
+    if !same(w, DUE + 12, position) {
+        return false;
+    }
+    same_states(w, DUE + 14, ancestral)
+}
+
+fn same_mutations(w: &[u32], site: &[u32], node: &[u32], derived: &[u8]) -> bool {
+    if !same(w, DUE + 16, site) {
+        return false;
+    }
+    if !same(w, DUE + 18, node) {
+        return false;
+    }
+    same_states(w, DUE + 20, derived)
+}
+
+// Whether a case goes as it is due: its answer, and every cell of every lent column and past it.
+pub fn goes(w: &[u32], bytes: &[u8]) -> bool {
+    let mut time = [cells::PATTERN; NODES];
+    let mut birth = [cells::PATTERN; NODES];
+    let mut left = [cells::PATTERN; EDGES];
+    let mut right = [cells::PATTERN; EDGES];
+    let mut parent = [cells::PATTERN; EDGES];
+    let mut child = [cells::PATTERN; EDGES];
+    let mut position = [cells::PATTERN; SITES];
+    let mut ancestral = [cells::MARK; SITES];
+    let mut site = [cells::PATTERN; MUTATIONS];
+    let mut node = [cells::PATTERN; MUTATIONS];
+    let mut derived = [cells::MARK; MUTATIONS];
+    let mut map = [cells::PATTERN; NODES];
+    let seen = clean_lent(
+        w,
+        bytes,
+        &mut time,
+        &mut birth,
+        &mut left,
+        &mut right,
+        &mut parent,
+        &mut child,
+        &mut position,
+        &mut ancestral,
+        &mut site,
+        &mut node,
+        &mut derived,
+        &mut map,
+    );
+    if !agrees(w, seen) {
+        return false;
+    }
+    if !same_nodes(w, &time, &birth, &map) {
+        return false;
+    }
+    if !same_edges(w, &left, &right, &parent, &child) {
+        return false;
+    }
+    if !same_sites(w, &position, &ancestral) {
+        return false;
+    }
+    same_mutations(w, &site, &node, &derived)
+}
