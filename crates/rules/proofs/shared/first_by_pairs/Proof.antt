@@ -1,12 +1,12 @@
--- `first_shared` meets its contract: no edge before the one looked at shares a position with an earlier one.
+-- `first_by_pairs` meets its contract: no edge before the one looked at shares a position with an earlier one.
 use mathlib.Core.Path.{sym, _∙_}
 use Prim.Native.Nat.{_≤_, _-_}
 use lib.ListN.{length}
 use Rattle.meaning.specs.Check.{edgeShared}
 use Rattle.laws.specs.Counting.{Sought, sought-start, sought-hit, sought-miss, sought-none}
 use borrow.Author.Needs.{needs}
-use Rattle.rules.proofs.edges.first_shared.Statement.{statement}
-use Rattle.rules.proofs.edges.first_shared.Tie as tie
+use Rattle.rules.proofs.shared.first_by_pairs.Statement.{statement}
+use Rattle.rules.proofs.shared.first_by_pairs.Tie as tie
 
 abbrev Inv-loop : tie.InvT-loop
 Inv-loop left right parent child i₀ i = (i ≤ length left) × Sought (edgeShared (record { left = left; right = right; parent = parent; child = child })) (length left) i
@@ -35,8 +35,8 @@ loop-again c = (search needs, sought-miss _ _ _ (c .before .before .loop-test .t
 returns-2 : tie.Need-returns-2 Inv-loop μ-loop
 returns-2 c = sought-none _ _ _ (c .before .loop .inv .0) (c .loop-test .left) (c .before .loop .inv .1)
 
-pub first-shared-spec : {M : Type 1} → statement M
-first-shared-spec =
+pub first-by-pairs-spec : {M : Type 1} → statement M
+first-by-pairs-spec =
     tie.close
     (tie.spec
     Inv-loop

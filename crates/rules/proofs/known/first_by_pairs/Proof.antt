@@ -1,4 +1,4 @@
--- `first_unknown` meets its contract: every sample before the one looked at names a node.
+-- `first_by_pairs` meets its contract: every sample before the one looked at names a node.
 use mathlib.Core.Path.{sym, ap, _∙_}
 use Prim.Native.Nat.{_≤_, _-_}
 use lib.ListN.{length}
@@ -6,8 +6,8 @@ use mathlib.Core.Bool.{not}
 use Rattle.meaning.specs.Check.{sampleUnknown}
 use Rattle.laws.specs.Counting.{Sought, sought-start, sought-hit, sought-miss, sought-none}
 use borrow.Author.Needs.{needs}
-use Rattle.rules.proofs.columns.first_unknown.Statement.{statement}
-use Rattle.rules.proofs.columns.first_unknown.Tie as tie
+use Rattle.rules.proofs.known.first_by_pairs.Statement.{statement}
+use Rattle.rules.proofs.known.first_by_pairs.Tie as tie
 
 abbrev Inv-loop : tie.InvT-loop
 Inv-loop birth samples i₀ i = (i ≤ length samples) × Sought (sampleUnknown birth samples) (length samples) i
@@ -44,8 +44,8 @@ loop-again c = (search needs, sought-miss _ _ _ (c .before .before .before .loop
 returns-2 : tie.Need-returns-2 Inv-loop μ-loop
 returns-2 c = sought-none _ _ _ (c .before .loop .inv .0) (c .loop-test .left) (c .before .loop .inv .1)
 
-pub first-unknown-spec : {M : Type 1} → statement M
-first-unknown-spec =
+pub first-by-pairs-spec : {M : Type 1} → statement M
+first-by-pairs-spec =
     tie.close
     (tie.spec
     Inv-loop
