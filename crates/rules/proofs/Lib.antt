@@ -5,4 +5,5 @@ pub mod ByLengths
 pub mod Halving
 pub mod Neighbours
 pub mod Sorting
+pub mod Walks
 pub mod Lookup

@@ -39,8 +39,8 @@ module _ (l idx : List ℕ) (b : ℕ) (r : Ranked l idx) where
               (λ s. ⊎-elim (λ (x : p ≡ m). omega (arith, ap (λ y. at l (at idx y)) x)) (λ (x : m < p). absurd (omega arith)) s)
               (trichotomy p m)
 
-      pub ringed-down : b < at l (at idx m) → Ringed l idx b low m
-      ringed-down e = record { inside = omega (arith, w .inside); under = w .under; over = over }
+      pub ringed-down : (at l (at idx m) ≡ b → ⊥) → b ≤ at l (at idx m) → Ringed l idx b low m
+      ringed-down n e = record { inside = omega (arith, w .inside); under = w .under; over = over }
         where
           over : (p : ℕ) → m ≤ p → p < length l → b < at l (at idx p)
           over p g k = ⊎-elim

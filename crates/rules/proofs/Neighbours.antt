@@ -12,6 +12,9 @@ use Rattle.laws.specs.Counting.{below-of, of-below}
 use Rattle.order.specs.Lex.{trichotomy}
 use Rattle.rules.specs.Lined.{Lined, Next}
 
+pub lined-row : (R : ℕ → ℕ → Bool) (n : ℕ) (idx : List ℕ) → Lined R n idx → (p : ℕ) → p < length idx → at idx p < n
+lined-row R n idx L p h = L .row p (omega (arith, L .long))
+
 -- places skipped, and one more
 pub skipped-more : (idx : List ℕ) (k i p : ℕ) → ((x : ℕ) → i ≤ x → x < p → k ≤ at idx x) → k ≤ at idx p → (x : ℕ) → i ≤ x → x < p + 1 → k ≤ at idx x
 skipped-more idx k i p f h x a b = ⊎-elim
@@ -57,16 +60,16 @@ module _ (R : ℕ → ℕ → Bool) (even : (a b : ℕ) → R a b ≡ true → R
         row : (i : ℕ) × (i < k) × (related R i ≡ true) → ⊥
         row s = earlier (s .0) (s .1) (below-of (λ j. R j (s .0)) (s .0) (s .2))
 
-    pub passed-end : (p : ℕ) → Passed R n idx k p → n ≤ p → false ≡ anyBelow (related R) k
-    passed-end p w h = sym (none-related (λ a b l m. w .clear a b l (omega arith) m))
+    pub passed-end : (p : ℕ) → Passed R n idx k p → length idx ≤ p → false ≡ anyBelow (related R) k
+    passed-end p w h = sym (none-related (λ a b l m. w .clear a b l (omega (arith, L .long)) m))
 
-    pub passed-last : (p q : ℕ) → Passed R n idx k p → Next idx k (p + 1) q → n ≤ q → false ≡ anyBelow (related R) k
+    pub passed-last : (p q : ℕ) → Passed R n idx k p → Next idx k (p + 1) q → length idx ≤ q → false ≡ anyBelow (related R) k
     passed-last p q w x h = sym (none-related go)
       where
         go : (a b : ℕ) → a < b → b < n → at idx a < k → at idx b < k → R (at idx a) (at idx b) ≡ false
         go a b l m c d = ⊎-elim
             (λ (s : b < p). w .clear a b l (omega arith) m c d)
-            (λ s. ⊎-elim (λ (e : b ≡ p). w .clear a b l (omega arith) m c d) (λ (g : p < b). absurd (omega (arith, x .skipped b (omega arith) (omega arith)))) s)
+            (λ s. ⊎-elim (λ (e : b ≡ p). w .clear a b l (omega arith) m c d) (λ (g : p < b). absurd (omega (arith, x .skipped b (omega arith) (omega (arith, L .long))))) s)
             (trichotomy b p)
 
   pub passed-start : (p : ℕ) → Next idx k 0 p → Passed R n idx k p
@@ -76,12 +79,18 @@ module _ (R : ℕ → ℕ → Bool) (even : (a b : ℕ) → R a b ≡ true → R
     clear = λ a b l m h c d. absurd (omega (arith, x .skipped a (omega arith) (omega arith)));
   }
 
-  module _ (p q : ℕ) (w : Passed R n idx k p) (h : p < n) (x : Next idx k (p + 1) q) (g : q < n) where
+  module _ (p q : ℕ) (w : Passed R n idx k p) (low : p < length idx) (x : Next idx k (p + 1) q) (far : q < length idx) where
+    h : p < n
+    h = omega (arith, L .long)
+
+    g : q < n
+    g = omega (arith, L .long)
+
     pub passed-hit : R (at idx p) (at idx q) ≡ true → true ≡ anyBelow (related R) k
-    passed-hit e = sym (two-related (at idx p) (at idx q) (w .low h) (x .low (omega (arith, L .long))) (L .once p q (omega (arith, x .after)) g) e)
+    passed-hit e = sym (two-related (at idx p) (at idx q) (w .low h) (x .low far) (L .once p q (omega (arith, x .after)) g) e)
 
     pub passed-miss : R (at idx p) (at idx q) ≡ false → Passed R n idx k q
-    passed-miss e = record { inside = omega arith; low = λ l. x .low (omega (arith, L .long)); clear = clear }
+    passed-miss e = record { inside = omega (arith, L .long); low = λ l. x .low far; clear = clear }
       where
         -- the row of place q is related with none up to place p
         first : (a : ℕ) → a ≤ p → at idx a < k → R (at idx a) (at idx q) ≡ false

@@ -49,13 +49,7 @@ fn some_shared(
 }
 
 // The lowest edge that shares a position with an earlier one, by halving the range in which it lies.
-fn first_lined(
-    left: &[u32],
-    right: &[u32],
-    parent: &[u32],
-    child: &[u32],
-    idx: &[u32],
-) -> usize
+fn first_lined(left: &[u32], right: &[u32], parent: &[u32], child: &[u32], idx: &[u32]) -> usize
     requires { ⌜ EvenEdges (record { left = now left; right = now right; parent = now parent; child = now child }) × Lined (share (record { left = now left; right = now right; parent = now parent; child = now child })) (length (now left)) (now idx) ⌝ }
     ensures { λ r. ⌜ r ≡ lowest (edgeShared (record { left = now (left .entry); right = now (right .entry); parent = now (parent .entry); child = now (child .entry) })) (length (now (left .entry))) ⌝ }
 {

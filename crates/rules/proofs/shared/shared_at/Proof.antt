@@ -25,13 +25,13 @@ shares-requires : tie.Need-shares-requires Inv-loop μ-loop
 shares-requires c κs = search needs
 
 returns : tie.Need-returns Inv-loop μ-loop
-returns c = sym (down-hit _ _ (c .before .before .before .loop-test .taken) (sym (c .before .shares .ensures) ∙ c .if1 .taken)) ∙ c .before .before .before .before .loop .inv .1
+returns c = sym (down-hit _ _ (c .before .before .loop-test .taken) (sym (c .before .shares .ensures) ∙ c .if1 .taken)) ∙ c .before .before .before .loop .inv .1
 
 loop-less : tie.Need-loop-less Inv-loop μ-loop
 loop-less c = search needs
 
 loop-again : tie.Need-loop-again Inv-loop μ-loop
-loop-again c = (search needs, sym (down-miss _ _ (c .before .before .before .loop-test .taken) (sym (c .before .shares .ensures) ∙ c .if1 .left)) ∙ c .before .before .before .before .loop .inv .1)
+loop-again c = (search needs, sym (down-miss _ _ (c .before .before .loop-test .taken) (sym (c .before .shares .ensures) ∙ c .if1 .left)) ∙ c .before .before .before .loop .inv .1)
 
 returns-2 : tie.Need-returns-2 Inv-loop μ-loop
 returns-2 c = sym (down-end _ _ (c .loop-test .left)) ∙ c .before .loop .inv .1

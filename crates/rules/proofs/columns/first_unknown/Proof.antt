@@ -1,0 +1,36 @@
+-- `first_unknown` meets its contract: the working column stands on the stack.
+use mathlib.Core.Path.{sym}
+use Rattle.rules.proofs.Sorting.{front-long}
+use native.Mathlib.Omega.{arith}
+use borrow.Author.Needs.{needs}
+use Rattle.rules.proofs.columns.first_unknown.Statement.{statement}
+use Rattle.rules.proofs.columns.first_unknown.Tie as tie
+
+first-by-pairs-requires : tie.Need-first-by-pairs-requires
+first-by-pairs-requires c κs = search needs
+
+returns : tie.Need-returns
+returns c = search needs
+
+array-borrow-prefix-idx : tie.Need-array-borrow-prefix-idx
+array-borrow-prefix-idx c = search needs
+
+slice-aggregate-first-by-order : tie.Need-slice-aggregate-first-by-order
+slice-aggregate-first-by-order c = front-long 1024 _ (c .before .if1 .left)
+
+first-by-order-requires : tie.Need-first-by-order-requires
+first-by-order-requires c κs = (sym (front-long 1024 _ (c .before .if1 .left)), omega (arith, c .before .if1 .left))
+
+returns-2 : tie.Need-returns-2
+returns-2 c = search needs
+
+pub first-unknown-spec : {M : Type 1} → statement M
+first-unknown-spec =
+    tie.close
+    (tie.spec
+    first-by-pairs-requires
+    returns
+    array-borrow-prefix-idx
+    slice-aggregate-first-by-order
+    first-by-order-requires
+    returns-2)
