@@ -1,12 +1,12 @@
 -- The lowest row that passes, by halving: whether some row below a bound passes tells on which side of the bound it lies.
-use mathlib.Core.Path.{_≡_, sym}
+use mathlib.Core.Path.{_≡_}
 use mathlib.Core.Bool.{Bool, true, false}
-use mathlib.Core.Logic.{_⊎_, ⊎-elim}
-use Prim.Native.Nat.{ℕ, suc, _+_, _<_, _≤_}
+use mathlib.Core.Logic.{⊎-elim}
+use Prim.Native.Nat.{ℕ, _+_, _<_, _≤_}
 use native.Mathlib.Omega.{arith}
 use Rattle.meaning.specs.Words.{anyBelow, lowest}
 use Rattle.laws.specs.Bools.{clash, not-true}
-use Rattle.laws.specs.Counting.{below-of, of-below, lowest-le, before-lowest, lowest-passes, lowest-none}
+use Rattle.laws.specs.Counting.{below-of, of-below, lowest-le, before-lowest, lowest-passes}
 use Rattle.order.specs.Lex.{trichotomy}
 
 module _ (f : ℕ → Bool) (n : ℕ) where
