@@ -1,0 +1,172 @@
+// Ancestry tables as vectors, and the shapes of history that the benchmark runs on.
+#pragma once
+#include <algorithm>
+#include <cstdint>
+#include <tuple>
+#include <vector>
+
+namespace bench {
+
+struct Tables {
+    std::uint32_t len = 1;
+    std::vector<std::uint32_t> time, birth;
+    std::vector<std::uint32_t> left, right, parent, child;
+    std::vector<std::uint32_t> position;
+    std::vector<std::uint8_t> ancestral;
+    std::vector<std::uint32_t> site, node;
+    std::vector<std::uint8_t> derived;
+    std::vector<std::uint32_t> samples;
+
+    std::uint32_t add_node(std::uint32_t t, std::uint32_t b) {
+        time.push_back(t);
+        birth.push_back(b);
+        return static_cast<std::uint32_t>(time.size() - 1);
+    }
+    void add_edge(std::uint32_t l, std::uint32_t r, std::uint32_t p, std::uint32_t c) {
+        left.push_back(l);
+        right.push_back(r);
+        parent.push_back(p);
+        child.push_back(c);
+    }
+    // The edges in key order: parent time, parent birth, child birth, left.
+    void order() {
+        std::vector<std::uint32_t> rows(left.size());
+        for (std::uint32_t i = 0; i < rows.size(); ++i) rows[i] = i;
+        auto key = [&](std::uint32_t e) { return std::make_tuple(time[parent[e]], birth[parent[e]], birth[child[e]], left[e]); };
+        std::sort(rows.begin(), rows.end(), [&](std::uint32_t a, std::uint32_t b) { return key(a) < key(b); });
+        Tables t;
+        for (auto e : rows) t.add_edge(left[e], right[e], parent[e], child[e]);
+        left = t.left;
+        right = t.right;
+        parent = t.parent;
+        child = t.child;
+    }
+};
+
+// A small generator with a fixed seed, so that every run has the same histories.
+struct Draw {
+    std::uint64_t state = 88172645463325252ull;
+    std::uint32_t operator()(std::uint32_t below) {
+        state ^= state << 13;
+        state ^= state >> 7;
+        state ^= state << 17;
+        return static_cast<std::uint32_t>((state >> 32) % below);
+    }
+};
+
+// So many sites spread over the chromosome, each with one mutation on a row drawn among those with an edge below.
+inline void mutate(Tables &t, std::size_t sites, Draw &draw) {
+    for (std::size_t i = 0; i < sites; ++i) {
+        t.position.push_back(static_cast<std::uint32_t>((std::uint64_t(t.len) * i) / sites));
+        t.ancestral.push_back(65);
+        t.site.push_back(static_cast<std::uint32_t>(i));
+        t.node.push_back(draw(static_cast<std::uint32_t>(t.time.size())));
+        t.derived.push_back(84);
+    }
+}
+
+// Wright-Fisher: 64 strands in each of so many generations, one crossing-over for each birth; the youngest are sampled.
+inline Tables wright_fisher(std::size_t nodes) {
+    const std::uint32_t size = 64;
+    const std::uint32_t generations = static_cast<std::uint32_t>(nodes / size);
+    Tables t;
+    Draw draw;
+    t.len = 1000000;
+    std::uint32_t birth = 1;
+    for (std::uint32_t g = 0; g < generations; ++g)
+        for (std::uint32_t i = 0; i < size; ++i) t.add_node(generations - g, birth++);
+    for (std::uint32_t g = 1; g < generations; ++g)
+        for (std::uint32_t i = 0; i < size; ++i) {
+            const std::uint32_t fish = draw(size / 2) * 2, cut = 1 + draw(t.len - 1), first = draw(2);
+            t.add_edge(0, cut, (g - 1) * size + fish + first, g * size + i);
+            t.add_edge(cut, t.len, (g - 1) * size + fish + 1 - first, g * size + i);
+        }
+    for (std::uint32_t i = 0; i < size; ++i) t.samples.push_back(t.birth[(generations - 1) * size + i]);
+    t.order();
+    mutate(t, nodes / 2, draw);
+    return t;
+}
+
+// Two samples that hang in turns under a line of unary nodes: each change moves the whole line.
+inline Tables line_under_changes(std::size_t nodes) {
+    Tables t;
+    Draw draw;
+    t.len = 1 << 20;
+    const std::uint32_t a = t.add_node(0, 1), b = t.add_node(0, 2);
+    const std::uint32_t line = static_cast<std::uint32_t>(nodes - 2);
+    std::vector<std::uint32_t> row;
+    for (std::uint32_t i = 0; i < line; ++i) row.push_back(t.add_node(1 + i, 3 + i));
+    for (std::uint32_t i = 0; i + 1 < line; ++i) t.add_edge(0, t.len, row[i + 1], row[i]);
+    const std::uint32_t pieces = static_cast<std::uint32_t>(3 * nodes);
+    for (std::uint32_t k = 0; k < pieces; ++k) {
+        const std::uint32_t l = static_cast<std::uint32_t>((std::uint64_t(t.len) * k) / pieces);
+        const std::uint32_t r = static_cast<std::uint32_t>((std::uint64_t(t.len) * (k + 1)) / pieces);
+        t.add_edge(l, r, row[0], k % 2 ? a : b);
+    }
+    t.samples = {1, 2};
+    t.order();
+    mutate(t, nodes / 2, draw);
+    return t;
+}
+
+// A comb: samples that leave a line of standing nodes one by one, and change places along it.
+inline Tables comb(std::size_t nodes) {
+    Tables t;
+    Draw draw;
+    t.len = 1 << 20;
+    const std::uint32_t teeth = static_cast<std::uint32_t>(nodes / 4);
+    const std::uint32_t line = static_cast<std::uint32_t>(nodes - teeth);
+    std::vector<std::uint32_t> tooth, row;
+    for (std::uint32_t i = 0; i < teeth; ++i) tooth.push_back(t.add_node(0, 1 + i));
+    for (std::uint32_t i = 0; i < line; ++i) row.push_back(t.add_node(1 + i, 1 + teeth + i));
+    for (std::uint32_t i = 0; i + 1 < line; ++i) t.add_edge(0, t.len, row[i + 1], row[i]);
+    const std::uint32_t pieces = 8;  // more, and the result passes the limit of edges
+    for (std::uint32_t i = 0; i < teeth; ++i)
+        for (std::uint32_t k = 0; k < pieces; ++k) {
+            const std::uint32_t l = static_cast<std::uint32_t>((std::uint64_t(t.len) * k) / pieces);
+            const std::uint32_t r = static_cast<std::uint32_t>((std::uint64_t(t.len) * (k + 1)) / pieces);
+            t.add_edge(l, r, row[(i * (line / teeth) + k * 7) % line], tooth[i]);
+        }
+    for (std::uint32_t i = 0; i < teeth; ++i) t.samples.push_back(t.birth[tooth[i]]);
+    t.order();
+    mutate(t, nodes / 2, draw);
+    return t;
+}
+
+// All edges of one parent: children that hold on to it over every other piece, the last 256 of them sampled.
+inline Tables one_parent(std::size_t nodes) {
+    Tables t;
+    Draw draw;
+    t.len = 1 << 20;
+    const std::uint32_t top = t.add_node(5, 1);
+    for (std::uint32_t i = 1; i < nodes; ++i) {
+        const std::uint32_t c = t.add_node(0, 1 + i);
+        for (std::uint32_t k = 0; k < 4; ++k) t.add_edge(2 * k * 1000 + i, (2 * k + 1) * 1000 + i, top, c);
+        if (i + nodes / 4 >= nodes) t.samples.push_back(1 + i);
+    }
+    t.order();
+    mutate(t, nodes / 2, draw);
+    return t;
+}
+
+// All edges of one child, which changes its parent at every piece; a second sample hangs beside it.
+inline Tables one_child(std::size_t nodes) {
+    Tables t;
+    Draw draw;
+    t.len = 1 << 20;
+    const std::uint32_t a = t.add_node(0, 1), b = t.add_node(0, 2);
+    for (std::uint32_t i = 2; i < nodes; ++i) t.add_node(i, 1 + i);
+    const std::uint32_t pieces = static_cast<std::uint32_t>(4 * nodes - 1);
+    for (std::uint32_t k = 0; k < pieces; ++k) {
+        const std::uint32_t l = static_cast<std::uint32_t>((std::uint64_t(t.len) * k) / pieces);
+        const std::uint32_t r = static_cast<std::uint32_t>((std::uint64_t(t.len) * (k + 1)) / pieces);
+        t.add_edge(l, r, 2 + (k * 5) % static_cast<std::uint32_t>(nodes - 2), a);
+    }
+    t.add_edge(0, t.len, 2, b);
+    t.samples = {1, 2};
+    t.order();
+    mutate(t, nodes / 2, draw);
+    return t;
+}
+
+}  // namespace bench
