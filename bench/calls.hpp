@@ -3,6 +3,7 @@
 #include <ffridwelan.h>
 
 #include "algorithm_s.hpp"
+#include "join_baseline.hpp"
 
 namespace bench {
 
@@ -36,7 +37,13 @@ struct Room {
     }
 };
 
-#define FFR_IN(v) (v).data(), (v).size()
+// A column as the calls take it: an empty one still needs a pointer.
+template <class T> const T *cells(const std::vector<T> &v) {
+    static const T none_there = 0;
+    return v.empty() ? &none_there : v.data();
+}
+template <class T> T *cells(std::vector<T> &v) { return v.data(); }
+#define FFR_IN(v) cells(v), (v).size()
 
 inline std::uint64_t clean(const Tables &t, const std::vector<std::uint32_t> &samples, Room &r) {
     return ffr_clean(t.len, FFR_IN(t.time), FFR_IN(t.birth), FFR_IN(t.left), FFR_IN(t.right), FFR_IN(t.parent),
@@ -44,6 +51,16 @@ inline std::uint64_t clean(const Tables &t, const std::vector<std::uint32_t> &sa
                      FFR_IN(t.derived), FFR_IN(samples), FFR_IN(r.time), FFR_IN(r.birth), FFR_IN(r.left),
                      FFR_IN(r.right), FFR_IN(r.parent), FFR_IN(r.child), FFR_IN(r.position), FFR_IN(r.ancestral),
                      FFR_IN(r.site), FFR_IN(r.node), FFR_IN(r.derived), FFR_IN(r.map), FFR_IN(r.block));
+}
+
+inline std::uint64_t join(const Tables &t, const Batch &b, Room &r) {
+    return ffr_join(t.len, FFR_IN(t.time), FFR_IN(t.birth), FFR_IN(t.left), FFR_IN(t.right), FFR_IN(t.parent),
+                    FFR_IN(t.child), FFR_IN(t.position), FFR_IN(t.ancestral), FFR_IN(t.site), FFR_IN(t.node),
+                    FFR_IN(t.derived), FFR_IN(b.time), FFR_IN(b.birth), FFR_IN(b.left), FFR_IN(b.right),
+                    FFR_IN(b.parent), FFR_IN(b.child), FFR_IN(b.site), FFR_IN(b.node), FFR_IN(b.derived),
+                    FFR_IN(r.time), FFR_IN(r.birth), FFR_IN(r.left), FFR_IN(r.right), FFR_IN(r.parent),
+                    FFR_IN(r.child), FFR_IN(r.position), FFR_IN(r.ancestral), FFR_IN(r.site), FFR_IN(r.node),
+                    FFR_IN(r.derived), FFR_IN(r.block));
 }
 
 inline bool same(const Tables &a, const Tables &b) {
