@@ -167,7 +167,8 @@ void one_short(Suite &s, Random &random, int rounds) {
         s.clean("exact room", r, exact);
         for (std::size_t i = 0; i < 13; ++i) {
             Rooms rooms = exact;
-            std::size_t &room = *rooms.all()[i];
+            const auto all_rooms = rooms.all();
+            std::size_t &room = *all_rooms[i];
             if (room == 0) continue;
             --room;
             const reference::Answer a = s.clean("one short", r, rooms);
@@ -195,7 +196,8 @@ void join_cases(Suite &s, Random &random, int rounds) {
         s.join("join, exact room", r, b, exact);
         for (std::size_t i = 0; i < 13; ++i) {
             Rooms rooms = exact;
-            std::size_t &room = *rooms.all()[i];
+            const auto all_rooms = rooms.all();
+            std::size_t &room = *all_rooms[i];
             if (room == 0) continue;
             --room;
             const reference::Answer a = s.join("join, one short", r, b, rooms);

@@ -1,5 +1,6 @@
 // Tests of the calls from C: thousands of random histories and damaged tables, compared cell by cell with the second
-// implementation. Usage: test_calls [ROUNDS]. Prints how often each answer was met and `N compared, 0 differ`.
+// implementation. Usage: test_calls [ROUNDS]. Prints how often each answer was met and `N compared, 0 differ`; with few
+// rounds an answer may be missed, with kEnough it may not.
 #include "cases.hpp"
 
 #include <cstdlib>
@@ -124,6 +125,13 @@ void threads(Suite &s) {
 
 const std::size_t kStack = 1 << 20;
 
+// The sanitizers keep stacks of their own.
+#ifdef FFR_SANITIZED
+const bool kSanitized = true;
+#else
+const bool kSanitized = false;
+#endif
+
 struct Call {
     Record record;
     Batch batch;
@@ -201,6 +209,7 @@ Met answers(bool joins) {
 
 int main(int count, char **words) {
     using namespace testing;
+    const int kEnough = 3000;
     const int rounds = count > 1 ? std::atoi(words[1]) : 10000;
     Suite s;
     Random random(2026);
@@ -217,13 +226,11 @@ int main(int count, char **words) {
     random_joins(s, random, rounds);
     runs(s, random, rounds / 50);
 #endif
-#if !defined(__SANITIZE_ADDRESS__) && !defined(FFR_NO_STACK)
-    stack(s);
-#endif
+    if (!kSanitized && rounds >= kEnough) stack(s); // not for the short run under valgrind
     s.report("clean", s.cleanings, answers(false));
 #ifndef FFR_NO_JOIN
     s.report("join", s.joins, answers(true));
 #endif
     std::printf("%lu cells\n%lu compared, %lu differ\n", s.cells, s.compared, s.differ);
-    return s.differ == 0 ? 0 : 1;
+    return s.differ == 0 && (s.missed == 0 || rounds < kEnough) ? 0 : 1;
 }
