@@ -119,6 +119,19 @@ void by_hand(Suite &s) {
     gives(s, "touching edges", r, {{{0, 1}, {501, 401}}, {{0}, {10}, {1}, {0}}, {{5, 8}, {65, 67}}, {}});
 }
 
+// The premise of the customer's third demand: a fish named later must be listed, or its edge is shorter.
+void named_later(Suite &s) {
+    Record r = listing();
+    const auto first = ffridwelan::clean(r.length, r.tables, r.samples);
+    const auto *cleaned = std::get_if<ffridwelan::Cleaned>(&first);
+    s.expect(cleaned != nullptr, "cleaned for 501 and 502");
+    r.samples = {401, 501};
+    gives(s, "from the raw input", r, {{{1, 0}, {401, 501}}, {{0}, {10}, {0}, {1}}, {{5, 8}, {65, 67}}, {{0, 1, 1}, {0, 0, 0}, {84, 84, 71}}});
+    if (cleaned == nullptr) return;
+    r.tables = cleaned->tables;
+    gives(s, "from the cleaned", r, {{{1, 0}, {401, 501}}, {{4}, {6}, {0}, {1}}, {{5, 8}, {65, 67}}, {{0, 1, 1}, {0, 1, 1}, {84, 84, 71}}});
+}
+
 void at_limits(Suite &s) {
     wants(s, "1,024 nodes", line(1024), 0, 0);
     wants(s, "1,025 nodes", line(1025), 2, 1);

@@ -10,6 +10,7 @@ namespace testing {
 Record listing();
 
 void by_hand(Suite &s);
+void named_later(Suite &s);
 void at_limits(Suite &s);
 void ragged(Suite &s);
 void one_short(Suite &s, Random &random, int rounds);

@@ -214,6 +214,7 @@ int main(int count, char **words) {
     Suite s;
     Random random(2026);
     by_hand(s);
+    named_later(s);
     at_limits(s);
     ragged(s);
     wrapper(s);
