@@ -103,6 +103,31 @@ void wrapper(Suite &s) {
     s.expect(bytes.has_value() && bytes->size() == 6 + 2 * 6 + 5 * 10 + 6 * 14 + 2 * 7 + 3 * 7 + 2, "stored form");
 }
 
+// Input columns may be one another: every fish has its time as birth number, and positions serve as rows too.
+void shared_inputs(Suite &s) {
+    Record r;
+    const Column numbers{0, 1, 2};
+    r.length = 9;
+    r.tables.nodes = {numbers, numbers};
+    r.tables.edges = {{0, 0}, {9, 9}, {1, 2}, {0, 1}};
+    r.tables.sites = {numbers, {7, 8, 9}};
+    r.tables.mutations = {numbers, numbers, {7, 8, 9}};
+    r.samples = numbers;
+    const Outputs before(Rooms::limits(), 3);
+    Outputs o = before;
+    const std::uint32_t *n = numbers.data();
+    const std::uint8_t *states = r.tables.sites.ancestral.data();
+    const std::uint32_t left[] = {0, 0}, right[] = {9, 9}, parent[] = {1, 2}, child[] = {0, 1};
+    const std::uint64_t answer = ffr_clean(
+        9, n, 3, n, 3, left, 2, right, 2, parent, 2, child, 2, n, 3, states, 3, n, 3, n, 3, states, 3, n, 3,
+        o.time.cells.data(), o.time.room, o.birth.cells.data(), o.birth.room, o.left.cells.data(), o.left.room,
+        o.right.cells.data(), o.right.room, o.parent.cells.data(), o.parent.room, o.child.cells.data(), o.child.room,
+        o.position.cells.data(), o.position.room, o.ancestral.cells.data(), o.ancestral.room, o.site.cells.data(), o.site.room,
+        o.node.cells.data(), o.node.room, o.derived.cells.data(), o.derived.room, o.map.cells.data(), o.map.room,
+        o.block.cells.data(), o.block.room);
+    s.judge("shared inputs", answer, reference::clean(r.length, r.tables, r.samples, Rooms::limits().shortest()), o, before);
+}
+
 // Several threads call at the same time.
 void threads(Suite &s) {
     const int count = 4;
@@ -218,6 +243,7 @@ int main(int count, char **words) {
     at_limits(s);
     ragged(s);
     wrapper(s);
+    shared_inputs(s);
     one_short(s, random, rounds / 50);
     random_cleanings(s, random, rounds);
     threads(s);

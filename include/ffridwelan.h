@@ -107,17 +107,17 @@ uint64_t ffr_clean(
     const uint32_t *node, size_t node_len,                   /* mutations: node row */
     const uint8_t *derived, size_t derived_len,              /* mutations: state after it */
     const uint32_t *samples, size_t samples_len,             /* birth numbers of the fish to keep */
-    uint32_t *out_time, size_t out_time_len,                 /* cleaned nodes */
-    uint32_t *out_birth, size_t out_birth_len,
-    uint32_t *out_left, size_t out_left_len,                 /* cleaned edges, each as long as it can be, in key order */
-    uint32_t *out_right, size_t out_right_len,
-    uint32_t *out_parent, size_t out_parent_len,
-    uint32_t *out_child, size_t out_child_len,
-    uint32_t *out_position, size_t out_position_len,         /* sites, unchanged */
-    uint8_t *out_ancestral, size_t out_ancestral_len,
-    uint32_t *out_site, size_t out_site_len,                 /* mutations kept, each on the nearest kept node below */
-    uint32_t *out_node, size_t out_node_len,
-    uint8_t *out_derived, size_t out_derived_len,
+    uint32_t *out_time, size_t out_time_len,                 /* cleaned nodes: time */
+    uint32_t *out_birth, size_t out_birth_len,               /* cleaned nodes: birth number */
+    uint32_t *out_left, size_t out_left_len,                 /* cleaned edges, each as long as it can be, in key order: left */
+    uint32_t *out_right, size_t out_right_len,               /* cleaned edges: right */
+    uint32_t *out_parent, size_t out_parent_len,             /* cleaned edges: output row of the parent */
+    uint32_t *out_child, size_t out_child_len,               /* cleaned edges: output row of the child */
+    uint32_t *out_position, size_t out_position_len,         /* sites, unchanged: position */
+    uint8_t *out_ancestral, size_t out_ancestral_len,        /* sites: ancestral state */
+    uint32_t *out_site, size_t out_site_len,                 /* mutations kept, in their order: site row */
+    uint32_t *out_node, size_t out_node_len,                 /* mutations: output row of the nearest kept node at or below */
+    uint8_t *out_derived, size_t out_derived_len,            /* mutations: derived state */
     uint32_t *out_map, size_t out_map_len,                   /* for each input node row its output row or FFR_NONE */
     uint32_t *block, size_t block_len);                      /* rows written: nodes, edges, sites, mutations */
 
@@ -130,37 +130,37 @@ uint64_t ffr_clean(
  */
 uint64_t ffr_join(
     uint32_t length,                                         /* the chromosome's length */
-    const uint32_t *time, size_t time_len,                   /* base tables, as for ffr_clean */
-    const uint32_t *birth, size_t birth_len,
-    const uint32_t *left, size_t left_len,
-    const uint32_t *right, size_t right_len,
-    const uint32_t *parent, size_t parent_len,
-    const uint32_t *child, size_t child_len,
-    const uint32_t *position, size_t position_len,
-    const uint8_t *ancestral, size_t ancestral_len,
-    const uint32_t *site, size_t site_len,
-    const uint32_t *node, size_t node_len,
-    const uint8_t *derived, size_t derived_len,
-    const uint32_t *batch_time, size_t batch_time_len,       /* batch nodes */
-    const uint32_t *batch_birth, size_t batch_birth_len,
-    const uint32_t *batch_left, size_t batch_left_len,       /* batch edges */
-    const uint32_t *batch_right, size_t batch_right_len,
-    const uint32_t *batch_parent, size_t batch_parent_len,   /* birth number of a base or batch node */
-    const uint32_t *batch_child, size_t batch_child_len,     /* birth number of a batch node */
+    const uint32_t *time, size_t time_len,                   /* base nodes: time */
+    const uint32_t *birth, size_t birth_len,                 /* base nodes: birth number */
+    const uint32_t *left, size_t left_len,                   /* base edges: left */
+    const uint32_t *right, size_t right_len,                 /* base edges: right */
+    const uint32_t *parent, size_t parent_len,               /* base edges: node row of the parent */
+    const uint32_t *child, size_t child_len,                 /* base edges: node row of the child */
+    const uint32_t *position, size_t position_len,           /* base sites: position */
+    const uint8_t *ancestral, size_t ancestral_len,          /* base sites: ancestral state */
+    const uint32_t *site, size_t site_len,                   /* base mutations: site row */
+    const uint32_t *node, size_t node_len,                   /* base mutations: node row */
+    const uint8_t *derived, size_t derived_len,              /* base mutations: derived state */
+    const uint32_t *batch_time, size_t batch_time_len,       /* batch nodes: time */
+    const uint32_t *batch_birth, size_t batch_birth_len,     /* batch nodes: birth number */
+    const uint32_t *batch_left, size_t batch_left_len,       /* batch edges: left */
+    const uint32_t *batch_right, size_t batch_right_len,     /* batch edges: right */
+    const uint32_t *batch_parent, size_t batch_parent_len,   /* batch edges: birth number of a base or batch node */
+    const uint32_t *batch_child, size_t batch_child_len,     /* batch edges: birth number of a batch node */
     const uint32_t *batch_site, size_t batch_site_len,       /* batch mutations: site row of the base */
-    const uint32_t *batch_node, size_t batch_node_len,       /* birth number of a batch node */
-    const uint8_t *batch_derived, size_t batch_derived_len,
-    uint32_t *out_time, size_t out_time_len,                 /* joined tables */
-    uint32_t *out_birth, size_t out_birth_len,
-    uint32_t *out_left, size_t out_left_len,
-    uint32_t *out_right, size_t out_right_len,
-    uint32_t *out_parent, size_t out_parent_len,
-    uint32_t *out_child, size_t out_child_len,
-    uint32_t *out_position, size_t out_position_len,
-    uint8_t *out_ancestral, size_t out_ancestral_len,
-    uint32_t *out_site, size_t out_site_len,
-    uint32_t *out_node, size_t out_node_len,
-    uint8_t *out_derived, size_t out_derived_len,
+    const uint32_t *batch_node, size_t batch_node_len,       /* batch mutations: birth number of a batch node */
+    const uint8_t *batch_derived, size_t batch_derived_len,  /* batch mutations: derived state */
+    uint32_t *out_time, size_t out_time_len,                 /* joined nodes: time */
+    uint32_t *out_birth, size_t out_birth_len,               /* joined nodes: birth number */
+    uint32_t *out_left, size_t out_left_len,                 /* joined edges: left */
+    uint32_t *out_right, size_t out_right_len,               /* joined edges: right */
+    uint32_t *out_parent, size_t out_parent_len,             /* joined edges: node row of the parent */
+    uint32_t *out_child, size_t out_child_len,               /* joined edges: node row of the child */
+    uint32_t *out_position, size_t out_position_len,         /* sites: position */
+    uint8_t *out_ancestral, size_t out_ancestral_len,        /* sites: ancestral state */
+    uint32_t *out_site, size_t out_site_len,                 /* joined mutations: site row */
+    uint32_t *out_node, size_t out_node_len,                 /* joined mutations: node row */
+    uint8_t *out_derived, size_t out_derived_len,            /* joined mutations: derived state */
     uint32_t *block, size_t block_len);                      /* rows written: nodes, edges, sites, mutations */
 
 /* The number of an answer: one of enum ffr_answer. */
