@@ -4,7 +4,7 @@
 #   make ctest               the calls compared with a second implementation, from C++ and C
 #   make example             a breeding run by the calls, listed by target/bin/ffridwelan
 #   make faults              that the tests see planted faults
-#   make sanitize valgrind   the tests under the sanitizers and under valgrind
+#   make sanitize valgrind   the tests under the sanitizers and under valgrind (on x86-64)
 #   make install PREFIX=     headers, archive, ffridwelan.pc
 #
 # REFERENCE=1 links the second implementation in place of the archive. JOIN=0 leaves joining out.
