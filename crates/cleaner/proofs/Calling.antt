@@ -12,7 +12,8 @@ use Rattle.meaning.specs.Rows.{Tables}
 use Rattle.meaning.specs.Forest.{Ages, stands}
 use Rattle.meaning.specs.Answer.{Answer, done, limits, refusalOf, checkedOf}
 use Rattle.meaning.specs.Check.{checkAllThen, check}
-use Rattle.meaning.specs.Clean.{Outcome, cleaned, nodeMap, cleaning}
+use Rattle.meaning.specs.Clean.{Outcome, cleaned, nodeMap}
+use Rattle.meaning.specs.Called.{cleaningTo}
 use Rattle.accepted.specs.Calls.{check-tells}
 use Rattle.byrows.specs.Ground.{Ground}
 use Rattle.checker.proofs.After.{Hands, hands, all-after, refused, stops, goes-on, was-sound}
@@ -31,21 +32,21 @@ module _ (L : ℕ) (T : Tables) (S : List ℕ) (c : Checked) (e : checkedOf c �
   unfolding check
   grounded q y = let k : _ = check-tells limits L T S (was-sound (checkAllThen limits L T S) hand c found q) in record { sound = k .sound; listed = k .listed; young = y }
 
-  module _ (out : Tables) (outMap : List ℕ) where
+  module _ (out : Tables) (outMap : List ℕ) (cells : ℕ) where
     abbrev rest : Answer
-    rest = fitAnswer (cleaned stands L T S) (nodeMap stands L T S) out outMap
+    rest = fitAnswer (cleaned stands L T S) (nodeMap stands L T S) out outMap cells
 
-    pub call-refused : (r : Refusal) → c ≡ checked.Refused r → _≡_ {A = Outcome} (record { answer = refusalOf r; counts = nothing; cells = out; map = outMap }) (cleaning stands limits L T S out outMap)
+    pub call-refused : (r : Refusal) → c ≡ checked.Refused r → _≡_ {A = Outcome} (record { answer = refusalOf r; counts = nothing; cells = out; map = outMap }) (cleaningTo stands limits L T S out outMap cells)
     call-refused r q = sym (
-        cleaning-by L T S out outMap (refusalOf r) (sym (stops (checkAllThen limits L T S) hand c found r q rest) ∙ ap checkedOf q)
+        cleaning-by L T S out outMap cells (refusalOf r) (sym (stops (checkAllThen limits L T S) hand c found r q rest) ∙ ap checkedOf q)
         ∙ ending-refused (refusalOf r) (cleaned stands L T S) (nodeMap stands L T S) out outMap (refused r)
         )
 
-    pub call-done : c ≡ checked.Sound → (o : Outcome) → o ≡ afterCheck L T S out outMap → o ≡ cleaning stands limits L T S out outMap
+    pub call-done : c ≡ checked.Sound → (o : Outcome) → o ≡ afterCheck L T S out outMap cells → o ≡ cleaningTo stands limits L T S out outMap cells
     unfolding afterCheck
-    call-done q o f = f ∙ sym (cleaning-by L T S out outMap rest (goes-on (checkAllThen limits L T S) hand c found q rest))
+    call-done q o f = f ∙ sym (cleaning-by L T S out outMap cells rest (goes-on (checkAllThen limits L T S) hand c found q rest))
 
 -- what is stored of the result is what comes after the check
-pub after-check : (L : ℕ) (T : Tables) (S : List ℕ) (out : Tables) (outMap : List ℕ) (o : Outcome) → o ≡ ending (fitAnswer (cleaned stands L T S) (nodeMap stands L T S) out outMap) (cleaned stands L T S) (nodeMap stands L T S) out outMap → o ≡ afterCheck L T S out outMap
+pub after-check : (L : ℕ) (T : Tables) (S : List ℕ) (out : Tables) (outMap : List ℕ) (cells : ℕ) (o : Outcome) → o ≡ ending (fitAnswer (cleaned stands L T S) (nodeMap stands L T S) out outMap cells) (cleaned stands L T S) (nodeMap stands L T S) out outMap → o ≡ afterCheck L T S out outMap cells
 unfolding afterCheck
-after-check L T S out outMap o e = e
+after-check L T S out outMap cells o e = e

@@ -12,10 +12,12 @@ use borrow.Author.Tests.{ltb-true, ltb-false, lt-ltb, le-ltb}
 use Rattle.meaning.specs.Words.{or}
 use Rattle.meaning.specs.Rows.{Tables}
 use Rattle.meaning.specs.Answer.{Answer, answer, done, limits, refuse, accepted, put}
+use Rattle.meaning.specs.Called.{blockThen}
 use Rattle.laws.specs.Bools.{or-no, or-left}
 use Rattle.accepted.specs.Refusals.{Accepted, passed}
-use Rattle.writing.specs.Room.{Needs, Lent, needsOf, lentBy, roomAnswer, roomOf, room-answer}
+use Rattle.writing.specs.Room.{Needs, Lent, needsOf, lentBy, roomOf}
 use Rattle.cleaner.specs.Work.{Base, Work, written, putAll, Written, Safe, Held}
+use Rattle.cleaner.specs.Block.{roomWithin, room-within}
 use Rattle.cleaner.specs.Outcome.{fitAnswer, ending, ending-done, ending-refused, nothing}
 
 -- the rows keep to the limits, and each column has a cell for each
@@ -35,9 +37,9 @@ pub record RoomFor (n : Needs) (l : Lent) : Type 0 where
   pub nodemap : n .rows ≤ l .nodemap
 
 -- no table lacks room where the code finds 0
-pub room-zero : (t : ℕ) (n : Needs) (l : Lent) → t ≡ 0 → roomOf t ≡ roomAnswer n l → roomAnswer n l ≡ done
+pub room-zero : (t : ℕ) (n : Needs) (l : Lent) (cells : ℕ) → t ≡ 0 → roomOf t ≡ roomWithin n l cells → roomWithin n l cells ≡ done
 unfolding roomOf
-room-zero t n l z e = sym e ∙ ap roomOf z
+room-zero t n l cells z e = sym e ∙ ap roomOf z
 
 -- one table passed: its room, and what comes after
 table : (most room need t : ℕ) (rest : Answer) → Accepted (refuse (or (ltb most need) (ltb room need)) 13 t rest) → ((need ≤ most) × (need ≤ room)) × Accepted rest
@@ -46,15 +48,15 @@ table most room need t rest h =
     let q : _ = or-no (ltb most need) (ltb room need) (p .0) in
     ((ltb-false most need (q .0), ltb-false room need (q .1)), p .1)
 
-pub room-for : (n : Needs) (l : Lent) → roomAnswer n l ≡ done → RoomFor n l
-unfolding roomAnswer accepted
-room-for n l e =
-    let h : Accepted (roomAnswer n l) = ap accepted e in
+pub room-for : (n : Needs) (l : Lent) (cells : ℕ) → roomWithin n l cells ≡ done → RoomFor n l
+unfolding roomWithin accepted
+room-for n l cells e =
+    let h : Accepted (roomWithin n l cells) = ap accepted e in
     let a : _ = table (limits .nodes) (min (l .time) (l .birth)) (n .nodes) 1 _ h in
     let b : _ = table (limits .edges) (min (l .left) (min (l .right) (min (l .parent) (l .child)))) (n .edges) 2 _ (a .1) in
     let c : _ = table (limits .sites) (min (l .position) (l .ancestral)) (n .sites) 3 _ (b .1) in
     let d : _ = table (limits .mutations) (min (l .site) (min (l .node) (l .derived))) (n .mutations) 4 _ (c .1) in
-    let f : _ = table (limits .nodes) (l .nodemap) (n .rows) 6 done (d .1) in
+    let f : _ = table (limits .nodes) (l .nodemap) (n .rows) 6 (blockThen cells done) (d .1) in
     record {
       edges-few = b .0 .0;
       time = omega (arith, a .0 .1);
@@ -104,35 +106,35 @@ module _ (B : Base) (W : Work) (safe : Safe B W) (new : Tables) (newMap : List �
       go false e = ap (λ z. or (ltb (limits .edges) z) (ltb room z)) (edges-count (ltb-false (limits .edges) (W .edges) e))
 
   -- the answer after the check, by the columns' numbers
-  pub fit-answer : (out : Tables) (outMap : List ℕ) → fitAnswer new newMap out outMap ≡ roomAnswer (needsIn B W) (lentBy out outMap)
-  unfolding fitAnswer roomAnswer
-  fit-answer out outMap = room-answer new newMap out outMap ∙ same
+  pub fit-answer : (out : Tables) (outMap : List ℕ) (cells : ℕ) → fitAnswer new newMap out outMap cells ≡ roomWithin (needsIn B W) (lentBy out outMap) cells
+  unfolding fitAnswer roomWithin
+  fit-answer out outMap cells = room-within new newMap out outMap cells ∙ same
     where
       l : Lent
       l = lentBy out outMap
 
-      same : roomAnswer (needsOf new newMap) l ≡ roomAnswer (needsIn B W) l
+      same : roomWithin (needsOf new newMap) l cells ≡ roomWithin (needsIn B W) l cells
       same = λ i.
           refuse (or (ltb (limits .nodes) (nodes-count i)) (ltb (min (l .time) (l .birth)) (nodes-count i))) 13 1
           (refuse (edges-lack (min (l .left) (min (l .right) (min (l .parent) (l .child)))) i) 13 2
           (refuse (or (ltb (limits .sites) (sites-count i)) (ltb (min (l .position) (l .ancestral)) (sites-count i))) 13 3
           (refuse (or (ltb (limits .mutations) (muts-count i)) (ltb (min (l .site) (min (l .node) (l .derived))) (muts-count i))) 13 4
-          (refuse (or (ltb (limits .nodes) (map-count i)) (ltb (l .nodemap) (map-count i))) 13 6 done))))
+          (refuse (or (ltb (limits .nodes) (map-count i)) (ltb (l .nodemap) (map-count i))) 13 6 (blockThen cells done)))))
 
-  module _ (out : Tables) (outMap : List ℕ) where
+  module _ (out : Tables) (outMap : List ℕ) (cells : ℕ) where
     -- a table without room: nothing is written
-    pub stored-refused : (t : ℕ) → (t ≡ 0 → ⊥) → roomOf t ≡ roomAnswer (needsIn B W) (lentBy out outMap) → record { answer = answer 13 t; counts = nothing; cells = out; map = outMap } ≡ ending (fitAnswer new newMap out outMap) new newMap out outMap
+    pub stored-refused : (t : ℕ) → (t ≡ 0 → ⊥) → roomOf t ≡ roomWithin (needsIn B W) (lentBy out outMap) cells → record { answer = answer 13 t; counts = nothing; cells = out; map = outMap } ≡ ending (fitAnswer new newMap out outMap cells) new newMap out outMap
     unfolding roomOf accepted
     stored-refused zero n e = absurd (n refl)
-    stored-refused (suc t) n e = sym (ap (λ (a : Answer). ending a new newMap out outMap) (fit-answer out outMap ∙ sym e) ∙ ending-refused (answer 13 (suc t)) new newMap out outMap refl)
+    stored-refused (suc t) n e = sym (ap (λ (a : Answer). ending a new newMap out outMap) (fit-answer out outMap cells ∙ sym e) ∙ ending-refused (answer 13 (suc t)) new newMap out outMap refl)
 
     -- all fits: the result stands at the front
-    pub stored-done : (t : ℕ) → t ≡ 0 → roomOf t ≡ roomAnswer (needsIn B W) (lentBy out outMap) → (out' : Tables) (outMap' : List ℕ) → Written B W out outMap out' outMap' → record { answer = done; counts = record { nodes = W .nodes; edges = W .edges; sites = length (B .position); mutations = W .mutations }; cells = out'; map = outMap' } ≡ ending (fitAnswer new newMap out outMap) new newMap out outMap
+    pub stored-done : (t : ℕ) → t ≡ 0 → roomOf t ≡ roomWithin (needsIn B W) (lentBy out outMap) cells → (out' : Tables) (outMap' : List ℕ) → Written B W out outMap out' outMap' → record { answer = done; counts = record { nodes = W .nodes; edges = W .edges; sites = length (B .position); mutations = W .mutations }; cells = out'; map = outMap' } ≡ ending (fitAnswer new newMap out outMap cells) new newMap out outMap
     stored-done t z f out' outMap' w =
-        let e : roomAnswer (needsIn B W) (lentBy out outMap) ≡ done = room-zero t (needsIn B W) (lentBy out outMap) z f in
-        let l : W .edges ≤ limits .edges = room-for (needsIn B W) (lentBy out outMap) e .edges-few in
+        let e : roomWithin (needsIn B W) (lentBy out outMap) cells ≡ done = room-zero t (needsIn B W) (lentBy out outMap) cells z f in
+        let l : W .edges ≤ limits .edges = room-for (needsIn B W) (lentBy out outMap) cells e .edges-few in
         sym (
-        ap (λ (a : Answer). ending a new newMap out outMap) (fit-answer out outMap ∙ e)
+        ap (λ (a : Answer). ending a new newMap out outMap) (fit-answer out outMap cells ∙ e)
         ∙ ending-done new newMap out outMap
         ∙ (λ i. record {
           answer = done;

@@ -9,7 +9,8 @@ use Rattle.meaning.specs.Forest.{stands}
 use Rattle.meaning.specs.Answer.{Answer, done, limits, refuse, lacks, accepted, put, left-by, refusalOf}
 use Rattle.meaning.specs.Lent.{Counts, fitThen, countsBy, cellsBy}
 use Rattle.meaning.specs.Check.{checkAllThen}
-use Rattle.meaning.specs.Clean.{Outcome, cleaned, nodeMap, cleanAnswer, cleaning}
+use Rattle.meaning.specs.Clean.{Outcome, cleaned, nodeMap}
+use Rattle.meaning.specs.Called.{blockThen, cleanAnswerTo, cleaningTo}
 use Rattle.cleaner.specs.Work.{putAll}
 use Rattle.cleaner.specs.declared.Cleaned.{Cleaned}
 use Rattle.cleaner.specs.declared.Cleaned.the-variants as code
@@ -27,20 +28,20 @@ unfoldable pub ending : Answer → Tables → List ℕ → Tables → List ℕ �
 unfolding countsBy cellsBy left-by
 ending a new newMap out outMap = record { answer = a; counts = countsBy a new; cells = cellsBy a new out; map = left-by a newMap outMap }
 
--- 13 for a result, or 0
-unfoldable pub fitAnswer : Tables → List ℕ → Tables → List ℕ → Answer
-unfolding fitThen refuse lacks
-fitAnswer new newMap out outMap = fitThen limits new out (refuse (lacks (limits .nodes) (outMap ∷ []) (length newMap)) 13 6 done)
+-- 13 for a result and a block of so many cells, or 0
+unfoldable pub fitAnswer : Tables → List ℕ → Tables → List ℕ → ℕ → Answer
+unfolding fitThen refuse lacks blockThen
+fitAnswer new newMap out outMap cells = fitThen limits new out (refuse (lacks (limits .nodes) (outMap ∷ []) (length newMap)) 13 6 (blockThen cells done))
 
 -- cleaning after its check
-unfoldable pub afterCheck : ℕ → Tables → List ℕ → Tables → List ℕ → Outcome
+unfoldable pub afterCheck : ℕ → Tables → List ℕ → Tables → List ℕ → ℕ → Outcome
 unfolding ending fitAnswer cleaned nodeMap
-afterCheck L T S out outMap = ending (fitAnswer (cleaned stands L T S) (nodeMap stands L T S) out outMap) (cleaned stands L T S) (nodeMap stands L T S) out outMap
+afterCheck L T S out outMap cells = ending (fitAnswer (cleaned stands L T S) (nodeMap stands L T S) out outMap cells) (cleaned stands L T S) (nodeMap stands L T S) out outMap
 
 -- the outcome by the answer after the check
-pub cleaning-by : (L : ℕ) (T : Tables) (S : List ℕ) (out : Tables) (outMap : List ℕ) (a : Answer) → checkAllThen limits L T S (fitAnswer (cleaned stands L T S) (nodeMap stands L T S) out outMap) ≡ a → cleaning stands limits L T S out outMap ≡ ending a (cleaned stands L T S) (nodeMap stands L T S) out outMap
-unfolding cleaning cleanAnswer fitAnswer ending
-cleaning-by L T S out outMap a e = ap (λ (a : Answer). ending a (cleaned stands L T S) (nodeMap stands L T S) out outMap) e
+pub cleaning-by : (L : ℕ) (T : Tables) (S : List ℕ) (out : Tables) (outMap : List ℕ) (cells : ℕ) (a : Answer) → checkAllThen limits L T S (fitAnswer (cleaned stands L T S) (nodeMap stands L T S) out outMap cells) ≡ a → cleaningTo stands limits L T S out outMap cells ≡ ending a (cleaned stands L T S) (nodeMap stands L T S) out outMap
+unfolding cleaningTo cleanAnswerTo fitAnswer ending
+cleaning-by L T S out outMap cells a e = ap (λ (a : Answer). ending a (cleaned stands L T S) (nodeMap stands L T S) out outMap) e
 
 -- a refusal leaves all as it was
 pub ending-refused : (a : Answer) (new : Tables) (newMap : List ℕ) (out : Tables) (outMap : List ℕ) → accepted a ≡ false → ending a new newMap out outMap ≡ record { answer = a; counts = nothing; cells = out; map = outMap }

@@ -12,6 +12,7 @@ ghost use Rattle.writing.specs.Room.{lentBy};
 ghost use Rattle.cleaner.specs.Fitting.{RoomFor};
 ghost use Rattle.cleaner.specs.Work.{Safe, Held, Written};
 use crate::Cleaned;
+use crate::room;
 use meaning::Refusal;
 
 // Table 1: the rows kept.
@@ -148,7 +149,7 @@ fn write_all(
     writing::copy(places, time.len(), out_map);
 }
 
-// 13 with nothing written, or 0 with the result at the front of each column.
+// 13 with nothing written, or 0 with the result at the front of each column; the caller's block takes so many cells.
 pub fn store(
     time: &[u32],
     birth: &[u32],
@@ -180,11 +181,12 @@ pub fn store(
     out_node: &mut [u32],
     out_derived: &mut [u8],
     out_map: &mut [u32],
+    cells: usize,
 ) -> Cleaned
     requires { ⌜ Safe (record { time = now time; birth = now birth; position = now position; ancestral = now ancestral; site = now site; derived = now derived }) (record { kept = now kept; left = now left; right = now right; parent = now parent; child = now child; order = now order; places = now places; lows = now lows; moved = now moved; nodes = nodes; edges = edges; mutations = mutations }) ⌝ }
-    ensures { λ r. ⌜ ((new : Tables) (newMap : List ℕ) → Held (record { time = now (time .entry); birth = now (birth .entry); position = now (position .entry); ancestral = now (ancestral .entry); site = now (site .entry); derived = now (derived .entry) }) (record { kept = now (kept .entry); left = now (left .entry); right = now (right .entry); parent = now (parent .entry); child = now (child .entry); order = now (order .entry); places = now (places .entry); lows = now (lows .entry); moved = now (moved .entry); nodes = nodes; edges = edges; mutations = mutations }) new newMap → outcomeOf r (record { nodes = record { time = now («out_time» .exit); birth = now («out_birth» .exit) }; edges = record { left = now («out_left» .exit); right = now («out_right» .exit); parent = now («out_parent» .exit); child = now («out_child» .exit) }; sites = record { position = now («out_position» .exit); ancestral = now («out_ancestral» .exit) }; muts = record { site = now («out_site» .exit); node = now («out_node» .exit); derived = now («out_derived» .exit) } }) (now («out_map» .exit)) ≡ ending (fitAnswer new newMap (record { nodes = record { time = now («out_time» .entry); birth = now («out_birth» .entry) }; edges = record { left = now («out_left» .entry); right = now («out_right» .entry); parent = now («out_parent» .entry); child = now («out_child» .entry) }; sites = record { position = now («out_position» .entry); ancestral = now («out_ancestral» .entry) }; muts = record { site = now («out_site» .entry); node = now («out_node» .entry); derived = now («out_derived» .entry) } }) (now («out_map» .entry))) new newMap (record { nodes = record { time = now («out_time» .entry); birth = now («out_birth» .entry) }; edges = record { left = now («out_left» .entry); right = now («out_right» .entry); parent = now («out_parent» .entry); child = now («out_child» .entry) }; sites = record { position = now («out_position» .entry); ancestral = now («out_ancestral» .entry) }; muts = record { site = now («out_site» .entry); node = now («out_node» .entry); derived = now («out_derived» .entry) } }) (now («out_map» .entry))) ⌝ }
+    ensures { λ r. ⌜ ((new : Tables) (newMap : List ℕ) → Held (record { time = now (time .entry); birth = now (birth .entry); position = now (position .entry); ancestral = now (ancestral .entry); site = now (site .entry); derived = now (derived .entry) }) (record { kept = now (kept .entry); left = now (left .entry); right = now (right .entry); parent = now (parent .entry); child = now (child .entry); order = now (order .entry); places = now (places .entry); lows = now (lows .entry); moved = now (moved .entry); nodes = nodes; edges = edges; mutations = mutations }) new newMap → outcomeOf r (record { nodes = record { time = now («out_time» .exit); birth = now («out_birth» .exit) }; edges = record { left = now («out_left» .exit); right = now («out_right» .exit); parent = now («out_parent» .exit); child = now («out_child» .exit) }; sites = record { position = now («out_position» .exit); ancestral = now («out_ancestral» .exit) }; muts = record { site = now («out_site» .exit); node = now («out_node» .exit); derived = now («out_derived» .exit) } }) (now («out_map» .exit)) ≡ ending (fitAnswer new newMap (record { nodes = record { time = now («out_time» .entry); birth = now («out_birth» .entry) }; edges = record { left = now («out_left» .entry); right = now («out_right» .entry); parent = now («out_parent» .entry); child = now («out_child» .entry) }; sites = record { position = now («out_position» .entry); ancestral = now («out_ancestral» .entry) }; muts = record { site = now («out_site» .entry); node = now («out_node» .entry); derived = now («out_derived» .entry) } }) (now («out_map» .entry)) cells) new newMap (record { nodes = record { time = now («out_time» .entry); birth = now («out_birth» .entry) }; edges = record { left = now («out_left» .entry); right = now («out_right» .entry); parent = now («out_parent» .entry); child = now («out_child» .entry) }; sites = record { position = now («out_position» .entry); ancestral = now («out_ancestral» .entry) }; muts = record { site = now («out_site» .entry); node = now («out_node» .entry); derived = now («out_derived» .entry) } }) (now («out_map» .entry))) ⌝ }
 {
-    let t = writing::no_room(
+    let t = room::no_room_within(
         nodes,
         edges,
         position.len(),
@@ -202,6 +204,7 @@ pub fn store(
         out_node.len(),
         out_derived.len(),
         out_map.len(),
+        cells,
     );
     if t != 0 {
         return Cleaned::Refused(Refusal::NoRoom(t));

@@ -1,24 +1,15 @@
--- `cleaner::clean` meets its contract: the check's refusal, or the cleaning of sound tables.
-use Rattle.cleaner.proofs.Calling.{grounded, call-refused, call-done}
+-- `cleaner::clean` meets its contract: a block of four cells is never short.
+use mathlib.Core.Path.{_∙_}
+use Rattle.meaning.specs.Forest.{stands}
+use Rattle.meaning.specs.Answer.{limits}
+use Rattle.meaning.specs.Called.{cleaning-to}
 use native.Mathlib.Omega.{arith}
 use borrow.Author.Needs.{needs}
 use Rattle.cleaner.proofs.clean.Statement.{statement}
 use Rattle.cleaner.proofs.clean.Tie as tie
 
-check-requires : tie.Need-check-requires
-check-requires c κs = search needs
-
-enum-known-r : tie.Need-enum-known-r
-enum-known-r c = search needs
-
-enum-told : tie.Need-enum-told
-enum-told c = search needs
-
-clean-sound-requires : tie.Need-clean-sound-requires
-clean-sound-requires c κs = grounded _ _ _ _ (c .before .before .before .before .before .before .before .before .before .before .before .before .before .before .check .ensures) (c .before .before .before .before .before .before .before .before .before .before .before .before .enum-told .given .1) (λ i l. omega (arith, c .before .before .before .before .before .before .before .before .before .before .before .before .before .before .before .before .before .before .before .before .before .before .before .before .before .before .before .before .before .before .before .before .before .before .before .before .before .before .shared-slice-known .given i))
-
-returns : tie.Need-returns
-returns c = call-refused _ _ _ _ (c .before .before .before .check .ensures) _ _ _ (c .before .r .given .1)
+clean-within-requires : tie.Need-clean-within-requires
+clean-within-requires c κs = search needs
 
 same-length : tie.Need-same-length
 same-length c = search needs
@@ -56,18 +47,14 @@ same-length-11 c = search needs
 same-length-12 : tie.Need-same-length-12
 same-length-12 c = search needs
 
-returns-2 : tie.Need-returns-2
-returns-2 c = call-done _ _ _ _ (c .before .before .before .before .before .before .before .before .before .before .before .before .before .before .before .before .before .before .before .before .before .before .before .before .before .before .before .before .before .before .before .before .before .before .before .before .before .before .before .check .ensures) _ _ (c .before .before .before .before .before .before .before .before .before .before .before .before .before .before .before .before .before .before .before .before .before .before .before .before .before .before .before .before .before .before .before .before .before .before .before .before .before .enum-told .given .1) _ (c .before .before .before .before .before .before .before .before .before .before .before .before .before .before .before .before .before .before .before .before .before .before .before .before .clean-sound .ensures)
+returns : tie.Need-returns
+returns c = c .before .before .before .before .before .before .before .before .before .before .before .before .before .before .before .before .before .before .before .before .before .before .before .before .clean-within .ensures ∙ cleaning-to stands limits _ _ _ _ _
 
 pub clean-spec : {M : Type 1} → statement M
 clean-spec =
     tie.close
     (tie.spec
-    check-requires
-    enum-known-r
-    enum-told
-    clean-sound-requires
-    returns
+    clean-within-requires
     same-length
     same-length-2
     same-length-3
@@ -80,4 +67,4 @@ clean-spec =
     same-length-10
     same-length-11
     same-length-12
-    returns-2)
+    returns)

@@ -1,4 +1,4 @@
--- `cleaner::work` meets its contract: the stages leave the result.
+-- `cleaner::sound::work` meets its contract: the stages leave the result.
 use mathlib.Core.Path.{refl, sym, ap, _∙_}
 use Prim.Native.Nat.{ℕ}
 use lib.ListN.{length, take, length-replicate}
@@ -7,8 +7,8 @@ use Rattle.cleaner.specs.Holding.{safe, held}
 use Rattle.cleaner.proofs.Working.{samples-rows, ends-rows}
 use native.Mathlib.Omega.{arith}
 use borrow.Author.Needs.{needs}
-use Rattle.cleaner.proofs.work.Statement.{statement}
-use Rattle.cleaner.proofs.work.Tie as tie
+use Rattle.cleaner.proofs.sound.work.Statement.{statement}
+use Rattle.cleaner.proofs.sound.work.Tie as tie
 
 slice-aggregate-trace : tie.Need-slice-aggregate-trace
 slice-aggregate-trace c = search needs

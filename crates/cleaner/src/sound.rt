@@ -1,0 +1,188 @@
+// Cleaning of tables that the check passes, by working columns on the stack.
+// Arrays on the stack: 99,328 bytes in `clean_sound`, 2,048 in `work`, 32,768 in `trace`, 122,880 in `swept`; 257,024 at most
+// at once (`order_edges` has 49,152 after the trace is done).
+ghost use mathlib.Core.Path.{_≡_};
+ghost use mathlib.Core.List.{List};
+ghost use Prim.Native.Nat.{ℕ, _≤_};
+ghost use lib.ListN.{length};
+ghost use Rattle.meaning.specs.Forest.{stands};
+ghost use Rattle.meaning.specs.Answer.{limits};
+ghost use Rattle.meaning.specs.Clean.{cleaned, nodeMap};
+ghost use Rattle.byrows.specs.Ground.{Ground};
+ghost use Rattle.cleaner.specs.Outcome.{outcomeOf, afterCheck};
+ghost use Rattle.cleaner.specs.Tracing.{Passed};
+ghost use Rattle.cleaner.specs.Work.{Holds};
+use crate::Cleaned;
+use crate::rank;
+use crate::store;
+use crate::trace;
+use meaning::EdgeTable;
+use meaning::MutationTable;
+use meaning::NodeTable;
+
+// Room for the samples' rows and then every row.
+const KEPT: usize = 1280;
+
+// How many rows of nodes, edges and mutations a result has; one edge more than the limit where they pass it.
+struct Sizes {
+    nodes: usize,
+    edges: usize,
+    mutations: usize,
+}
+
+// The result of a cleaning in working columns.
+fn work(
+    len: u32,
+    time: &[u32],
+    birth: &[u32],
+    left: &[u32],
+    right: &[u32],
+    parent: &[u32],
+    child: &[u32],
+    position: &[u32],
+    site: &[u32],
+    node: &[u32],
+    samples: &[u32],
+    kept: &mut [u32],
+    fl: &mut [u32],
+    fr: &mut [u32],
+    fp: &mut [u32],
+    fc: &mut [u32],
+    order: &mut [u32],
+    places: &mut [u32],
+    lows: &mut [u32],
+    moved: &mut [u32],
+) -> Sizes
+    requires { ⌜ Passed len (record { time = now time; birth = now birth }) (record { left = now left; right = now right; parent = now parent; child = now child }) (now position) (now site) (now node) (now samples) × ((length (now kept) ≡ 1280) × (length (now fl) ≡ limits .edges) × (length (now fr) ≡ limits .edges) × (length (now fp) ≡ limits .edges) × (length (now fc) ≡ limits .edges) × (length (now order) ≡ limits .edges) × (length (now places) ≡ limits .nodes) × (length (now lows) ≡ limits .mutations) × (length (now moved) ≡ limits .mutations)) ⌝ }
+    ensures { λ r. ⌜ ((A D : List ℕ) → Ground limits len (record { nodes = record { time = now (time .entry); birth = now (birth .entry) }; edges = record { left = now (left .entry); right = now (right .entry); parent = now (parent .entry); child = now (child .entry) }; sites = record { position = now (position .entry); ancestral = A }; muts = record { site = now (site .entry); node = now (node .entry); derived = D } }) (now (samples .entry)) → Holds (record { nodes = record { time = now (time .entry); birth = now (birth .entry) }; edges = record { left = now (left .entry); right = now (right .entry); parent = now (parent .entry); child = now (child .entry) }; sites = record { position = now (position .entry); ancestral = A }; muts = record { site = now (site .entry); node = now (node .entry); derived = D } }) (record { kept = now (kept .exit); left = now (fl .exit); right = now (fr .exit); parent = now (fp .exit); child = now (fc .exit); order = now (order .exit); places = now (places .exit); lows = now (lows .exit); moved = now (moved .exit); nodes = r .nodes; edges = r .edges; mutations = r .mutations }) (cleaned stands len (record { nodes = record { time = now (time .entry); birth = now (birth .entry) }; edges = record { left = now (left .entry); right = now (right .entry); parent = now (parent .entry); child = now (child .entry) }; sites = record { position = now (position .entry); ancestral = A }; muts = record { site = now (site .entry); node = now (node .entry); derived = D } }) (now (samples .entry))) (nodeMap stands len (record { nodes = record { time = now (time .entry); birth = now (birth .entry) }; edges = record { left = now (left .entry); right = now (right .entry); parent = now (parent .entry); child = now (child .entry) }; sites = record { position = now (position .entry); ancestral = A }; muts = record { site = now (site .entry); node = now (node .entry); derived = D } }) (now (samples .entry)))) ⌝ }
+{
+    let mut sample = [0u8; NodeTable::MOST];
+    let mut stood = [0u8; NodeTable::MOST];
+    let edges = trace::trace(
+        len,
+        time,
+        birth,
+        left,
+        right,
+        parent,
+        child,
+        position,
+        site,
+        node,
+        samples,
+        kept,
+        &mut sample,
+        fl,
+        fr,
+        fp,
+        fc,
+        &mut stood,
+        lows,
+    );
+    let nodes = rank::keep_rows(time, birth, &sample, &stood, samples.len(), kept, places);
+    rank::finish_edges(time, birth, places, fl, fp, fc, edges, order);
+    let mutations = rank::finish_mutations(places, site.len(), lows, moved);
+    Sizes {
+        nodes: nodes,
+        edges: edges,
+        mutations: mutations,
+    }
+}
+
+// Cleaning of tables that the check passes.
+pub fn clean_sound(
+    len: u32,
+    time: &[u32],
+    birth: &[u32],
+    left: &[u32],
+    right: &[u32],
+    parent: &[u32],
+    child: &[u32],
+    position: &[u32],
+    ancestral: &[u8],
+    site: &[u32],
+    node: &[u32],
+    derived: &[u8],
+    samples: &[u32],
+    out_time: &mut [u32],
+    out_birth: &mut [u32],
+    out_left: &mut [u32],
+    out_right: &mut [u32],
+    out_parent: &mut [u32],
+    out_child: &mut [u32],
+    out_position: &mut [u32],
+    out_ancestral: &mut [u8],
+    out_site: &mut [u32],
+    out_node: &mut [u32],
+    out_derived: &mut [u8],
+    out_map: &mut [u32],
+    cells: usize,
+) -> Cleaned
+    requires { ⌜ Ground limits len (record { nodes = record { time = now time; birth = now birth }; edges = record { left = now left; right = now right; parent = now parent; child = now child }; sites = record { position = now position; ancestral = now ancestral }; muts = record { site = now site; node = now node; derived = now derived } }) (now samples) ⌝ }
+    ensures { λ r. ⌜ outcomeOf r (record { nodes = record { time = now («out_time» .exit); birth = now («out_birth» .exit) }; edges = record { left = now («out_left» .exit); right = now («out_right» .exit); parent = now («out_parent» .exit); child = now («out_child» .exit) }; sites = record { position = now («out_position» .exit); ancestral = now («out_ancestral» .exit) }; muts = record { site = now («out_site» .exit); node = now («out_node» .exit); derived = now («out_derived» .exit) } }) (now («out_map» .exit)) ≡ afterCheck len (record { nodes = record { time = now (time .entry); birth = now (birth .entry) }; edges = record { left = now (left .entry); right = now (right .entry); parent = now (parent .entry); child = now (child .entry) }; sites = record { position = now (position .entry); ancestral = now (ancestral .entry) }; muts = record { site = now (site .entry); node = now (node .entry); derived = now (derived .entry) } }) (now (samples .entry)) (record { nodes = record { time = now («out_time» .entry); birth = now («out_birth» .entry) }; edges = record { left = now («out_left» .entry); right = now («out_right» .entry); parent = now («out_parent» .entry); child = now («out_child» .entry) }; sites = record { position = now («out_position» .entry); ancestral = now («out_ancestral» .entry) }; muts = record { site = now («out_site» .entry); node = now («out_node» .entry); derived = now («out_derived» .entry) } }) (now («out_map» .entry)) cells ⌝ }
+{
+    let mut kept = [0u32; KEPT];
+    let mut fl = [0u32; EdgeTable::MOST];
+    let mut fr = [0u32; EdgeTable::MOST];
+    let mut fp = [0u32; EdgeTable::MOST];
+    let mut fc = [0u32; EdgeTable::MOST];
+    let mut order = [0u32; EdgeTable::MOST];
+    let mut places = [0u32; NodeTable::MOST];
+    let mut lows = [0u32; MutationTable::MOST];
+    let mut moved = [0u32; MutationTable::MOST];
+    let z = work(
+        len,
+        time,
+        birth,
+        left,
+        right,
+        parent,
+        child,
+        position,
+        site,
+        node,
+        samples,
+        &mut kept,
+        &mut fl,
+        &mut fr,
+        &mut fp,
+        &mut fc,
+        &mut order,
+        &mut places,
+        &mut lows,
+        &mut moved,
+    );
+    store::store(
+        time,
+        birth,
+        position,
+        ancestral,
+        site,
+        derived,
+        &kept,
+        &fl,
+        &fr,
+        &fp,
+        &fc,
+        &order,
+        &places,
+        &lows,
+        &moved,
+        z.nodes,
+        z.edges,
+        z.mutations,
+        out_time,
+        out_birth,
+        out_left,
+        out_right,
+        out_parent,
+        out_child,
+        out_position,
+        out_ancestral,
+        out_site,
+        out_node,
+        out_derived,
+        out_map,
+        cells,
+    )
+}

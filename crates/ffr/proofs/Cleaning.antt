@@ -1,0 +1,64 @@
+-- What the call of cleaning gives and leaves, from the code's answer.
+use mathlib.Core.Path.{_≡_, refl, sym, ap, _∙_}
+use mathlib.Core.Bool.{true}
+use mathlib.Core.List.{List, [], _∷_}
+use Prim.Native.Nat.{ℕ, _<_, _≤_}
+use native.Mathlib.Omega.{arith}
+use lib.ListN.{length}
+use Rattle.meaning.specs.declared.Refusal.{Refusal}
+use Rattle.meaning.specs.Rows.{Tables}
+use Rattle.meaning.specs.Forest.{stands}
+use Rattle.meaning.specs.Answer.{Answer, done, limits, accepted, refuse, lacks, put, left-by, refusalOf}
+use Rattle.meaning.specs.Lent.{fitThen}
+use Rattle.meaning.specs.Check.{checkAllThen}
+use Rattle.meaning.specs.Clean.{Outcome, cleaned, nodeMap}
+use Rattle.meaning.specs.Called.{blockThen, cleanAnswerTo, cleaningTo, packed, blockBy, CleanCall, cleanCall}
+use Rattle.accepted.specs.Refusals.{Accepted, of-done, passed}
+use Rattle.accepted.specs.Checked.{all-sound-of}
+use Rattle.accepted.specs.Rooms.{Fits, fits-of}
+use Rattle.cleaner.specs.declared.Cleaned.{Cleaned}
+use Rattle.cleaner.specs.declared.Cleaned.the-variants as code
+use Rattle.cleaner.specs.Outcome.{outcomeOf}
+use Rattle.ffr.proofs.Rows.{low-clean}
+use Rattle.ffr.proofs.Packing.{Counted, counts-small, block-long, block-kept}
+
+-- an outcome as C sees it
+abbrev callOf : Outcome → List ℕ → CleanCall
+callOf o block = record { code = packed (o .answer); cells = o .cells; map = o .map; block = blockBy (o .answer) (o .counts) block }
+
+module _ (L : ℕ) (T : Tables) (S : List ℕ) (out : Tables) (outMap block : List ℕ) (x : Cleaned) (cells : Tables) (nodemap : List ℕ) (e : outcomeOf x cells nodemap ≡ cleaningTo stands limits L T S out outMap (length block)) where
+  told : {y : Cleaned} → x ≡ y → outcomeOf y cells nodemap ≡ cleaningTo stands limits L T S out outMap (length block)
+  told q = ap (λ (z : Cleaned). outcomeOf z cells nodemap) (sym q) ∙ e
+
+  called : {y : Cleaned} → x ≡ y → callOf (outcomeOf y cells nodemap) block ≡ cleanCall stands limits L T S out outMap block
+  unfolding cleanCall
+  called q = ap (λ (o : Outcome). callOf o block) (told q)
+
+  -- a refusal's row is a number of four bytes
+  pub row-small : {r : Refusal} → x ≡ code.Refused r → refusalOf r .row < 4294967296
+  unfolding cleaningTo
+  row-small q = omega (arith, ap (λ (o : Outcome). o .answer .row) (told q), low-clean stands L T S out outMap (length block))
+
+  pub call-refused : {r : Refusal} {v : ℕ} → x ≡ code.Refused r → v ≡ packed (refusalOf r) → _≡_ {A = CleanCall} (record { code = v; cells = cells; map = nodemap; block = block }) (cleanCall stands limits L T S out outMap block)
+  call-refused {r} q p = (λ i. record { code = p i; cells = cells; map = nodemap; block = block-kept r (record { nodes = 0; edges = 0; sites = 0; mutations = 0 }) block i }) ∙ called q
+
+  -- what comes after tables 1 to 4, and what after the check
+  abbrev map-then : Answer
+  map-then = refuse (lacks (limits .nodes) (outMap ∷ []) (length (nodeMap stands L T S))) 13 6 (blockThen (length block) done)
+
+  abbrev fit-then : Answer
+  fit-then = fitThen limits (cleaned stands L T S) out map-then
+
+  -- after 0 the counts are numbers of four bytes, and the block has cells for them
+  pub counted : {n e s m : ℕ} → x ≡ code.Done n e s m → Counted (record { nodes = n; edges = e; sites = s; mutations = m }) (length block)
+  unfolding cleaningTo cleanAnswerTo
+  counted q =
+      let h : Accepted (checkAllThen limits L T S fit-then) = of-done (checkAllThen limits L T S fit-then) (sym (ap (λ (o : Outcome). o .answer) (told q))) in
+      let p : _ = all-sound-of limits L T S fit-then h in
+      let f : _ = fits-of limits (cleaned stands L T S) out map-then (p .2) in
+      let b : _ = passed (lacks (limits .nodes) (outMap ∷ []) (length (nodeMap stands L T S))) 13 6 (blockThen (length block) done) (omega arith) (f .1) in
+      counts-small (checkAllThen limits L T S fit-then) (cleaned stands L T S) out (length block) _ (ap (λ (o : Outcome). o .counts) (told q)) h (f .0) (block-long (length block) (b .1))
+
+  pub call-done : {n e s m : ℕ} {block' : List ℕ} → x ≡ code.Done n e s m → block' ≡ put (n ∷ e ∷ s ∷ m ∷ []) block → _≡_ {A = CleanCall} (record { code = 0; cells = cells; map = nodemap; block = block' }) (cleanCall stands limits L T S out outMap block)
+  unfolding packed blockBy left-by accepted
+  call-done q p = (λ i. record { code = 0; cells = cells; map = nodemap; block = p i }) ∙ called q

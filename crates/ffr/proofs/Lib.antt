@@ -1,0 +1,4 @@
+-- Laws of the calls from C: numbers that four bytes hold, and what a call gives and leaves.
+pub mod Rows
+pub mod Packing
+pub mod Cleaning

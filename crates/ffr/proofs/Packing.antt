@@ -1,0 +1,67 @@
+-- The answer as one number, and the rows written in the lent block.
+use mathlib.Core.Path.{_≡_, refl, sym, ap, subst, _∙_}
+use mathlib.Core.Bool.{Bool, true, false}
+use mathlib.Core.List.{List, [], _∷_}
+use Prim.Native.Nat.{ℕ, _+_, _*_, _<_, _≤_}
+use native.Mathlib.Omega.{arith}
+use lib.Dec.{ltb}
+use lib.ListN.{length, set}
+use borrow.Author.Tests.{ltb-false}
+use Rattle.meaning.specs.declared.Refusal.{Refusal}
+use Rattle.meaning.specs.Rows.{Tables}
+use Rattle.meaning.specs.Answer.{Answer, answer, done, limits, accepted, put, left-by, refusalOf}
+use Rattle.meaning.specs.Lent.{Counts, countsBy}
+use Rattle.meaning.specs.Called.{packed, blockBy, blockThen}
+use Rattle.accepted.specs.Refusals.{Accepted, passed}
+use Rattle.accepted.specs.Rooms.{Fits}
+use Rattle.checker.proofs.After.{refused}
+
+-- a refusal of another name has that name's row, and its code
+pub row-as : {x y : Refusal} → x ≡ y → refusalOf x .row < 4294967296 → refusalOf y .row < 4294967296
+row-as e h = omega (arith, ap (λ (z : Refusal). refusalOf z .row) e)
+
+pub packed-as : {x y : Refusal} {r : ℕ} → x ≡ y → r ≡ refusalOf y .number * 4294967296 + refusalOf y .row → r ≡ packed (refusalOf x)
+unfolding packed
+packed-as e h = h ∙ sym (ap (λ (z : Refusal). packed (refusalOf z)) e)
+
+-- four cells written one after the other
+pub four : (l : List ℕ) (a b c d : ℕ) → 4 ≤ length l → set (set (set (set l 0 a) 1 b) 2 c) 3 d ≡ put (a ∷ b ∷ c ∷ d ∷ []) l
+unfolding put
+four [] a b c d h = absurd (omega arith)
+four (x ∷ []) a b c d h = absurd (omega arith)
+four (x ∷ y ∷ []) a b c d h = absurd (omega arith)
+four (x ∷ y ∷ z ∷ []) a b c d h = absurd (omega arith)
+four (x ∷ y ∷ z ∷ w ∷ l) a b c d h = refl
+
+-- a refusal leaves the block as it was
+pub block-kept : (r : Refusal) (c : Counts) (block : List ℕ) → block ≡ blockBy (refusalOf r) c block
+unfolding blockBy left-by
+block-kept r c block = rw (refused r, left-by)
+
+-- what the block takes after 0: four cells are there, and each count is a number of four bytes
+pub record Counted (c : Counts) (cells : ℕ) : Type 0 where
+  pub block : 4 ≤ cells
+  pub nodes : c .nodes < 4294967296
+  pub edges : c .edges < 4294967296
+  pub sites : c .sites < 4294967296
+  pub mutations : c .mutations < 4294967296
+
+-- a block that is not short
+pub block-long : (cells : ℕ) → Accepted (blockThen cells done) → 4 ≤ cells
+unfolding blockThen
+block-long cells h = ltb-false cells 4 (passed (ltb cells 4) 13 7 done (omega arith) h .0)
+
+counts-of : (a : Answer) (new : Tables) → Accepted a → countsBy a new ≡ record { nodes = length (new .nodes .time); edges = length (new .edges .left); sites = length (new .sites .position); mutations = length (new .muts .site) }
+unfolding countsBy
+counts-of a new h = rw (h, countsBy)
+
+pub counts-small : (a : Answer) (new out : Tables) (cells : ℕ) (c : Counts) → c ≡ countsBy a new → Accepted a → Fits limits new out → 4 ≤ cells → Counted c cells
+counts-small a new out cells c e h f b =
+    let q : _ = e ∙ counts-of a new h in
+    record {
+      block = b;
+      nodes = omega (arith, ap (λ (c : Counts). c .nodes) q, f .nodes .few);
+      edges = omega (arith, ap (λ (c : Counts). c .edges) q, f .edges .few);
+      sites = omega (arith, ap (λ (c : Counts). c .sites) q, f .sites .few);
+      mutations = omega (arith, ap (λ (c : Counts). c .mutations) q, f .muts .few);
+    }

@@ -1,0 +1,3 @@
+// The calls from C: numbers and table columns, each column a pointer and a length, and the answer as one number.
+pub mod clean;
+mod pack;
