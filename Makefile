@@ -7,12 +7,13 @@
 #   make sanitize valgrind   the tests under the sanitizers and under valgrind (on x86-64)
 #   make install PREFIX=     headers, archive, ffridwelan.pc
 #
-# REFERENCE=1 links the second implementation in place of the archive. JOIN=0 leaves joining out.
+# REFERENCE=1 links the second implementation in place of the archive (with JOIN=1 for joining too). JOIN=0 leaves joining
+# out, which is so by itself where crate ffr has no join.
 
 PREFIX ?= /usr/local
 ROUNDS ?= 10000
 REFERENCE ?= 0
-JOIN ?= 1
+JOIN ?= $(if $(wildcard crates/ffr/src/join.rt),1,0)
 
 # The archive is x86-64 code; elsewhere a cross compiler makes the callers and an emulator runs them.
 ifeq ($(shell uname -m),x86_64)
@@ -87,11 +88,16 @@ ctest: $(OUT)/test_calls $(OUT)/test_c
 	cmp $(OUT)/test_c.out cpp/test_c.expected
 	$(RUN) $(OUT)/test_calls $(ROUNDS)
 
+ifeq ($(JOIN),0)
+example:
+	@echo "example skipped: crate ffr has no join"
+else
 example: $(OUT)/example $(LISTER)
 	$(RUN) $(OUT)/example > $(OUT)/example.seq
 	$(RUN) $(LISTER) < $(OUT)/example.seq > $(OUT)/example.out
 	cat $(OUT)/example.out
 	cmp $(OUT)/example.out cpp/example.expected
+endif
 
 # Each fault planted in the calls of the second implementation must be seen.
 faults: $(SOURCES:cpp/%.cpp=$(OUT)/%.o)

@@ -195,22 +195,33 @@ std::size_t stack_used(Call &c) {
     return used;
 }
 
-void stack(Suite &s) {
+// The most over tables at their limits: a broad record, a line of 1,024 nodes with a mutation at its foot, many segments.
+std::size_t most_stack(Suite &s, int kind) {
     Random random(11);
-    Call none, clean, join;
-    clean.record = breeding(random, 64, 15, 100000, 512);
-    clean.kind = 1;
-    join.record = breeding(random, 48, 15, 100000, 400);
-    for (std::uint32_t &t : join.record.tables.nodes.time) t += 6;
-    join.batch = random_batch(random, join.record);
-    join.kind = 2;
-    const std::size_t base = stack_used(none), cleaning = stack_used(clean) - base;
-    std::printf("stack of a cleaning: %zu bytes\n", cleaning);
-    s.expect(clean.answer == 0 && cleaning < kStack / 2, "stack of a cleaning");
+    Record broad = breeding(random, 48, 15, 100000, 400), deep = hanging(1000, 2000);
+    for (Record *r : {&broad, &deep})
+        for (std::uint32_t &t : r->tables.nodes.time) t += 6; // a batch can be younger
+    deep.tables.sites.add(0, 'A');
+    deep.tables.mutations.add(0, 0, 'C');
+    Call none;
+    const std::size_t base = stack_used(none);
+    std::size_t most = 0;
+    for (const Record &record : {broad, deep}) {
+        Call call;
+        call.record = record;
+        call.batch = random_batch(random, record);
+        call.kind = kind;
+        most = std::max(most, stack_used(call) - base);
+        s.expect(call.answer == 0, "a call on a stack of 1 MB");
+    }
+    s.expect(most < kStack / 2, "half of 1 MB of stack is enough");
+    return most;
+}
+
+void stack(Suite &s) {
+    std::printf("stack of a cleaning: %zu bytes\n", most_stack(s, 1));
 #ifndef FFR_NO_JOIN
-    const std::size_t joining = stack_used(join) - base;
-    std::printf("stack of a join: %zu bytes\n", joining);
-    s.expect(join.answer == 0 && joining < kStack / 2, "stack of a join");
+    std::printf("stack of a join: %zu bytes\n", most_stack(s, 2));
 #endif
 }
 
