@@ -44,7 +44,7 @@ OUT := target/cpp$(if $(filter 1,$(REFERENCE)),-reference)$(if $(filter 0,$(JOIN
 HEADERS := $(wildcard include/*) $(wildcard cpp/*.hpp)
 REFERENCES := check clean join position
 SOURCES := $(REFERENCES:%=cpp/reference_%.cpp) cpp/histories.cpp cpp/cases.cpp cpp/test_calls.cpp
-FAULTS := 1 2 3 4 5 6 7 8
+FAULTS := 1 2 3 4 5 6 7 $(if $(filter 1,$(JOIN)),8)
 
 COMPILE = $(CXX) -std=c++17 $(STRICT) $(CXXFLAGS) $(NOJOIN) -pthread -Iinclude
 
