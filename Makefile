@@ -1,0 +1,124 @@
+# The calls from C: archive, tests, example, installation. The proofs and the other tests are run by rt (README.md).
+#
+#   make archive             prove crate ffr and write target/staticlib/libffr.a
+#   make ctest               the calls compared with a second implementation, from C++ and C
+#   make example             a breeding run by the calls, listed by target/bin/ffridwelan
+#   make faults              that the tests see planted faults
+#   make sanitize valgrind   the tests under the sanitizers and under valgrind (on x86-64)
+#   make install PREFIX=     headers, archive, ffridwelan.pc
+#
+# REFERENCE=1 links the second implementation in place of the archive (with JOIN=1 for joining too). JOIN=0 leaves joining
+# out, which is so by itself where crate ffr has no join.
+
+PREFIX ?= /usr/local
+ROUNDS ?= 10000
+REFERENCE ?= 0
+JOIN ?= $(if $(wildcard crates/ffr/src/join.rt),1,0)
+
+# The archive is x86-64 code; elsewhere a cross compiler makes the callers and an emulator runs them.
+ifeq ($(shell uname -m),x86_64)
+CROSS ?=
+RUN ?=
+else
+CROSS ?= x86_64-linux-gnu-
+RUN ?= qemu-x86_64 -L /usr/x86_64-linux-gnu
+endif
+ifeq ($(origin CXX),default)
+CXX := $(CROSS)g++
+endif
+ifeq ($(origin CC),default)
+CC := $(CROSS)gcc
+endif
+
+STRICT := -Wall -Wextra -Wpedantic -Werror
+CFLAGS ?= -O2
+CXXFLAGS ?= -O2
+ifeq ($(JOIN),0)
+NOJOIN := -DFFR_NO_JOIN
+endif
+
+ARCHIVE := target/staticlib/libffr.a
+LISTER := target/bin/ffridwelan
+# Compiled files, in a folder of their own for each way of building.
+OUT := target/cpp$(if $(filter 1,$(REFERENCE)),-reference)$(if $(filter 0,$(JOIN)),-nojoin)
+HEADERS := $(wildcard include/*) $(wildcard cpp/*.hpp)
+REFERENCES := check clean join position
+SOURCES := $(REFERENCES:%=cpp/reference_%.cpp) cpp/histories.cpp cpp/cases.cpp cpp/test_calls.cpp
+FAULTS := 1 2 3 4 5 6 7 $(if $(filter 1,$(JOIN)),8)
+
+COMPILE = $(CXX) -std=c++17 $(STRICT) $(CXXFLAGS) $(NOJOIN) -pthread -Iinclude
+
+ifeq ($(REFERENCE),1)
+CALLS := $(OUT)/reference_calls.o $(REFERENCES:%=$(OUT)/reference_%.o)
+else
+CALLS := $(ARCHIVE)
+endif
+
+.PHONY: archive ctest example faults sanitize valgrind install clean-cpp
+
+archive:
+	rt staticlib ffr
+
+$(ARCHIVE):
+	rt staticlib ffr
+
+$(LISTER):
+	rt check ffridwelan
+
+$(OUT):
+	mkdir -p $@
+
+$(OUT)/%.o: cpp/%.cpp $(HEADERS) Makefile | $(OUT)
+	$(COMPILE) -c $< -o $@
+
+$(OUT)/test_calls: $(SOURCES:cpp/%.cpp=$(OUT)/%.o) $(CALLS)
+	$(CXX) $(CXXFLAGS) -pthread $(sort $^) -o $@
+
+$(OUT)/test_c.o: cpp/test_c.c include/ffridwelan.h Makefile | $(OUT)
+	$(CC) -std=c99 $(STRICT) $(CFLAGS) -Iinclude -c $< -o $@
+
+$(OUT)/test_c: $(OUT)/test_c.o $(CALLS)
+	$(CXX) $(CXXFLAGS) $^ -o $@
+
+$(OUT)/example: $(OUT)/example.o $(CALLS)
+	$(CXX) $(CXXFLAGS) $^ -o $@
+
+ctest: $(OUT)/test_calls $(OUT)/test_c
+	$(RUN) $(OUT)/test_c > $(OUT)/test_c.out
+	cmp $(OUT)/test_c.out cpp/test_c.expected
+	$(RUN) $(OUT)/test_calls $(ROUNDS)
+
+ifeq ($(JOIN),0)
+example:
+	@echo "example skipped: crate ffr has no join"
+else
+example: $(OUT)/example $(LISTER)
+	$(RUN) $(OUT)/example > $(OUT)/example.seq
+	$(RUN) $(LISTER) < $(OUT)/example.seq > $(OUT)/example.out
+	cat $(OUT)/example.out
+	cmp $(OUT)/example.out cpp/example.expected
+endif
+
+# Each fault planted in the calls of the second implementation must be seen.
+faults: $(SOURCES:cpp/%.cpp=$(OUT)/%.o)
+	@for f in $(FAULTS); do \
+	    $(COMPILE) -DFFR_FAULT=$$f $^ cpp/reference_calls.cpp -o $(OUT)/fault && \
+	    if $(RUN) $(OUT)/fault 2000 > $(OUT)/fault.out; then echo "fault $$f not seen"; exit 1; \
+	    else echo "fault $$f: $$(tail -n 1 $(OUT)/fault.out)"; fi; \
+	done
+
+SANITIZE := -g -O1 -fsanitize=address,undefined -fno-sanitize-recover=all -DFFR_SANITIZED
+sanitize:
+	$(MAKE) ctest OUT=$(OUT)-sanitize ROUNDS=3000 CFLAGS="$(SANITIZE)" CXXFLAGS="$(SANITIZE)"
+
+valgrind: $(OUT)/test_calls
+	valgrind --error-exitcode=2 --leak-check=full --quiet $(OUT)/test_calls 300
+
+install: $(ARCHIVE)
+	mkdir -p $(DESTDIR)$(PREFIX)/include $(DESTDIR)$(PREFIX)/lib/pkgconfig
+	install -m 644 include/ffridwelan.h include/ffridwelan.hpp $(DESTDIR)$(PREFIX)/include
+	install -m 644 $(ARCHIVE) $(DESTDIR)$(PREFIX)/lib
+	sed 's|@PREFIX@|$(abspath $(PREFIX))|' ffridwelan.pc.in > $(DESTDIR)$(PREFIX)/lib/pkgconfig/ffridwelan.pc
+
+clean-cpp:
+	rm -rf target/cpp target/cpp-*

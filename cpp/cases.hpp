@@ -1,0 +1,25 @@
+// The fixed cases of the tests; see cases.cpp.
+#ifndef CASES_HPP
+#define CASES_HPP
+
+#include "suite.hpp"
+
+namespace testing {
+
+// The scope paper's listing.
+Record listing();
+
+void by_hand(Suite &s);
+void named_later(Suite &s);
+void at_limits(Suite &s);
+void ragged(Suite &s);
+void one_short(Suite &s, Random &random, int rounds);
+
+#ifndef FFR_NO_JOIN
+void join_cases(Suite &s, Random &random, int rounds);
+void join_limits(Suite &s);
+#endif
+
+} // namespace testing
+
+#endif

@@ -1,0 +1,51 @@
+/* The raw call from plain C99: the scope paper's listing, cleaned for fish 501 and 502. */
+#include "ffridwelan.h"
+
+#include <stdio.h>
+
+#define CELLS(column) column, sizeof(column) / sizeof(column[0])
+
+int main(void) {
+    const uint32_t time[] = {0, 0, 1, 2, 3}, birth[] = {501, 502, 401, 301, 201};
+    const uint32_t left[] = {0, 4, 0, 0, 6, 0}, right[] = {10, 6, 10, 4, 10, 10};
+    const uint32_t parent[] = {2, 2, 3, 3, 3, 4}, child[] = {0, 1, 2, 1, 1, 3};
+    const uint32_t position[] = {5, 8};
+    const uint8_t ancestral[] = {'A', 'C'};
+    const uint32_t site[] = {0, 1, 1}, node[] = {3, 4, 2};
+    const uint8_t derived[] = {'T', 'T', 'G'};
+    const uint32_t samples[] = {501, 502};
+
+    /* Room for each table's limit is always enough. */
+    static uint32_t out_time[FFR_MOST_NODES], out_birth[FFR_MOST_NODES];
+    static uint32_t out_left[FFR_MOST_EDGES], out_right[FFR_MOST_EDGES], out_parent[FFR_MOST_EDGES], out_child[FFR_MOST_EDGES];
+    static uint32_t out_position[FFR_MOST_SITES];
+    static uint8_t out_ancestral[FFR_MOST_SITES];
+    static uint32_t out_site[FFR_MOST_MUTATIONS], out_node[FFR_MOST_MUTATIONS];
+    static uint8_t out_derived[FFR_MOST_MUTATIONS];
+    static uint32_t out_map[FFR_MOST_NODES];
+    uint32_t rows[FFR_BLOCK_CELLS];
+    uint64_t answer;
+    uint32_t i;
+
+    answer = ffr_clean(10, CELLS(time), CELLS(birth), CELLS(left), CELLS(right), CELLS(parent), CELLS(child), CELLS(position),
+                       CELLS(ancestral), CELLS(site), CELLS(node), CELLS(derived), CELLS(samples), CELLS(out_time),
+                       CELLS(out_birth), CELLS(out_left), CELLS(out_right), CELLS(out_parent), CELLS(out_child),
+                       CELLS(out_position), CELLS(out_ancestral), CELLS(out_site), CELLS(out_node), CELLS(out_derived),
+                       CELLS(out_map), CELLS(rows));
+    if (ffr_number(answer) != FFR_DONE) {
+        fprintf(stderr, "refused: %s (%u, row %u)\n", ffr_reason(ffr_number(answer)), (unsigned)ffr_number(answer),
+                (unsigned)ffr_row(answer));
+        return 1;
+    }
+    for (i = 0; i < rows[0]; ++i) printf("N %u %u %u\n", (unsigned)i, (unsigned)out_time[i], (unsigned)out_birth[i]);
+    for (i = 0; i < rows[1]; ++i)
+        printf("E %u %u %u %u\n", (unsigned)out_left[i], (unsigned)out_right[i], (unsigned)out_parent[i], (unsigned)out_child[i]);
+    for (i = 0; i < rows[2]; ++i) printf("S %u %u\n", (unsigned)out_position[i], (unsigned)out_ancestral[i]);
+    for (i = 0; i < rows[3]; ++i) printf("M %u %u %u\n", (unsigned)out_site[i], (unsigned)out_node[i], (unsigned)out_derived[i]);
+    for (i = 0; i < sizeof(time) / sizeof(time[0]); ++i) {
+        printf("X %u ", (unsigned)i);
+        if (out_map[i] == FFR_NONE) printf("-\n");
+        else printf("%u\n", (unsigned)out_map[i]);
+    }
+    return 0;
+}
