@@ -4,6 +4,7 @@
 #   make ctest               the calls compared with a second implementation, from C++ and C
 #   make example             a breeding run by the calls, listed by target/bin/ffridwelan
 #   make faults              that the tests see planted faults
+#   make bench               the calls beside C++ baselines, in time and instructions (bench/run)
 #   make sanitize valgrind   the tests under the sanitizers and under valgrind (on x86-64)
 #   make install PREFIX=     headers, archive, ffridwelan.pc
 #
@@ -54,7 +55,10 @@ else
 CALLS := $(ARCHIVE)
 endif
 
-.PHONY: archive ctest example faults sanitize valgrind install clean-cpp
+bench: $(ARCHIVE)
+	bench/run
+
+.PHONY: bench archive ctest example faults sanitize valgrind install clean-cpp
 
 archive:
 	rt staticlib ffr
