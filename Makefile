@@ -55,13 +55,13 @@ else
 CALLS := $(ARCHIVE)
 endif
 
-bench: $(ARCHIVE)
-	bench/run
-
 .PHONY: bench archive ctest example faults sanitize valgrind install clean-cpp
 
 archive:
 	rt staticlib ffr
+
+bench: $(ARCHIVE)
+	bench/run
 
 $(ARCHIVE):
 	rt staticlib ffr
