@@ -2,3 +2,5 @@
 pub mod Rows
 pub mod Packing
 pub mod Cleaning
+pub mod BatchRows
+pub mod Joining

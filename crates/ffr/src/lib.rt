@@ -1,3 +1,4 @@
 // The calls from C: numbers and table columns, each column a pointer and a length, and the answer as one number.
 pub mod clean;
+pub mod join;
 mod pack;

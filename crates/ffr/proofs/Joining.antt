@@ -1,0 +1,64 @@
+-- What the call of joining gives and leaves, from the code's answer.
+use mathlib.Core.Path.{_≡_, refl, sym, ap, _∙_}
+use mathlib.Core.Bool.{true}
+use mathlib.Core.List.{List, [], _∷_}
+use Prim.Native.Nat.{ℕ, _<_, _≤_}
+use native.Mathlib.Omega.{arith}
+use lib.ListN.{length}
+use Rattle.meaning.specs.declared.Refusal.{Refusal}
+use Rattle.meaning.specs.Rows.{Tables}
+use Rattle.meaning.specs.Answer.{Answer, done, limits, accepted, put, left-by, refusalOf}
+use Rattle.meaning.specs.Lent.{fitThen}
+use Rattle.meaning.specs.Check.{checkThen}
+use Rattle.meaning.specs.Join.{BatchTables, JoinOutcome, joined, batchShapes, batchSizes, batchRules}
+use Rattle.meaning.specs.Called.{blockThen, joinAnswerTo, joiningTo, packed, blockBy, JoinCall, joinCall}
+use Rattle.accepted.specs.Refusals.{Accepted, of-done}
+use Rattle.accepted.specs.Checked.{sound-of}
+use Rattle.accepted.specs.Batches.{batch-sound-of}
+use Rattle.accepted.specs.Rooms.{fits-of}
+use Rattle.joiner.specs.declared.Joined.{Joined}
+use Rattle.joiner.specs.declared.Joined.the-variants as code
+use Rattle.joiner.specs.Outcome.{joinedOf}
+use Rattle.ffr.proofs.BatchRows.{low-join}
+use Rattle.ffr.proofs.Packing.{Counted, counts-small, block-long, block-kept}
+
+-- an outcome as C sees it
+abbrev callOf : JoinOutcome → List ℕ → JoinCall
+callOf o block = record { code = packed (o .answer); cells = o .cells; block = blockBy (o .answer) (o .counts) block }
+
+module _ (L : ℕ) (T : Tables) (B : BatchTables) (out : Tables) (block : List ℕ) (x : Joined) (cells : Tables) (e : joinedOf x cells ≡ joiningTo limits L T B out (length block)) where
+  told : {y : Joined} → x ≡ y → joinedOf y cells ≡ joiningTo limits L T B out (length block)
+  told q = ap (λ (z : Joined). joinedOf z cells) (sym q) ∙ e
+
+  called : {y : Joined} → x ≡ y → callOf (joinedOf y cells) block ≡ joinCall limits L T B out block
+  unfolding joinCall
+  called q = ap (λ (o : JoinOutcome). callOf o block) (told q)
+
+  -- a refusal's row is a number of four bytes
+  pub row-small : {r : Refusal} → x ≡ code.Refused r → refusalOf r .row < 4294967296
+  unfolding joiningTo
+  row-small q = omega (arith, ap (λ (o : JoinOutcome). o .answer .row) (told q), low-join L T B out (length block))
+
+  pub call-refused : {r : Refusal} {v : ℕ} → x ≡ code.Refused r → v ≡ packed (refusalOf r) → _≡_ {A = JoinCall} (record { code = v; cells = cells; block = block }) (joinCall limits L T B out block)
+  call-refused {r} q p = (λ i. record { code = p i; cells = cells; block = block-kept r (record { nodes = 0; edges = 0; sites = 0; mutations = 0 }) block i }) ∙ called q
+
+  -- what comes after the check, after the batch's, and after the batch's rules
+  abbrev fit-then : Answer
+  fit-then = fitThen limits (joined L T B) out (blockThen (length block) done)
+
+  abbrev batch-then : Answer
+  batch-then = batchShapes B (batchSizes limits T B (batchRules L T B fit-then))
+
+  -- after 0 the counts are numbers of four bytes, and the block has cells for them
+  pub counted : {n e s m : ℕ} → x ≡ code.Done n e s m → Counted (record { nodes = n; edges = e; sites = s; mutations = m }) (length block)
+  unfolding joiningTo joinAnswerTo
+  counted q =
+      let h : Accepted (checkThen limits L T batch-then) = of-done (checkThen limits L T batch-then) (sym (ap (λ (o : JoinOutcome). o .answer) (told q))) in
+      let p : _ = sound-of limits L T batch-then h in
+      let b : _ = batch-sound-of limits L T B fit-then (p .1) in
+      let f : _ = fits-of limits (joined L T B) out (blockThen (length block) done) (b .1) in
+      counts-small (checkThen limits L T batch-then) (joined L T B) out (length block) _ (ap (λ (o : JoinOutcome). o .counts) (told q)) h (f .0) (block-long (length block) (f .1))
+
+  pub call-done : {n e s m : ℕ} {block' : List ℕ} → x ≡ code.Done n e s m → block' ≡ put (n ∷ e ∷ s ∷ m ∷ []) block → _≡_ {A = JoinCall} (record { code = 0; cells = cells; block = block' }) (joinCall limits L T B out block)
+  unfolding packed blockBy left-by accepted
+  call-done q p = (λ i. record { code = 0; cells = cells; block = p i }) ∙ called q
