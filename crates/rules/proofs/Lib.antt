@@ -2,3 +2,8 @@
 pub mod Laws
 pub mod Rows
 pub mod ByLengths
+pub mod Halving
+pub mod Neighbours
+pub mod Sorting
+pub mod Walks
+pub mod Lookup

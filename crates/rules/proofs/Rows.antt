@@ -65,13 +65,10 @@ module _ (E : EdgeColumns) (j i : ℕ) where
     begins-after b = simp (eq-eqb _ _ a, le-ltb _ _ b)
 
     module _ (b : at (E .left) j < at (E .right) i) where
-      pub ends-before : at (E .right) j ≤ at (E .left) i → share E j i ≡ false
+      -- the last test decides
+      pub share-ends : share E j i ≡ ltb (at (E .left) i) (at (E .right) j)
       unfolding share
-      ends-before c = simp (eq-eqb _ _ a, lt-ltb _ _ b, le-ltb _ _ c)
-
-      pub shares : at (E .left) i < at (E .right) j → share E j i ≡ true
-      unfolding share
-      shares c = simp (eq-eqb _ _ a, lt-ltb _ _ b, lt-ltb _ _ c)
+      share-ends = simp (eq-eqb _ _ a, lt-ltb _ _ b)
 
 -- ---- rule 8
 

@@ -1,38 +1,21 @@
 // Rules of a column with itself or with another: repeated numbers, samples that name no node, sites out of order.
+use meaning::NodeTable;
 ghost use mathlib.Core.Path.{_≡_};
 ghost use Prim.Native.Nat.{_<_};
 ghost use lib.ListN.{length};
 ghost use Rattle.meaning.specs.Words.{lowest, mem};
 ghost use Rattle.meaning.specs.Check.{repeated, sampleUnknown, siteBroken};
 
-// Whether an earlier row has the number of row i.
-fn repeated_at(l: &[u32], i: usize) -> bool
-    requires { ⌜ i < length (now l) ⌝ }
-    ensures { λ r. ⌜ r ≡ repeated (now (l .entry)) i ⌝ }
-{
-    let b = l[i];
-    let mut j = i;
-    while 0 < j {
-        j -= 1;
-        if l[j] == b {
-            return true;
-        }
-    }
-    false
-}
-
 // 4 and 12: the lowest row whose number an earlier row has.
 pub fn first_repeated(l: &[u32]) -> usize
     ensures { λ r. ⌜ r ≡ lowest (repeated (now (l .entry))) (length (now (l .entry))) ⌝ }
 {
-    let mut i = 0;
-    while i < l.len() {
-        if repeated_at(l, i) {
-            return i;
-        }
-        i += 1;
+    let n = l.len();
+    if NodeTable::MOST < n {
+        return crate::repeated::first_by_pairs(l);
     }
-    l.len()
+    let mut idx = [0u32; NodeTable::MOST];
+    crate::repeated::first_by_order(l, &mut idx[..n])
 }
 
 // Whether some row of l has the number b.
@@ -53,14 +36,12 @@ pub fn has(l: &[u32], b: u32) -> bool
 pub fn first_unknown(birth: &[u32], samples: &[u32]) -> usize
     ensures { λ r. ⌜ r ≡ lowest (sampleUnknown (now (birth .entry)) (now (samples .entry))) (length (now (samples .entry))) ⌝ }
 {
-    let mut i = 0;
-    while i < samples.len() {
-        if !has(birth, samples[i]) {
-            return i;
-        }
-        i += 1;
+    let n = birth.len();
+    if NodeTable::MOST < n {
+        return crate::known::first_by_pairs(birth, samples);
     }
-    samples.len()
+    let mut idx = [0u32; NodeTable::MOST];
+    crate::known::first_by_order(birth, samples, &mut idx[..n])
 }
 
 // Whether the site of row i lies past the chromosome or not above the site before.

@@ -1,4 +1,5 @@
 // Rules of the edges: rows that exist and times that rise, key order, shared positions.
+use meaning::EdgeTable;
 ghost use mathlib.Core.Path.{_≡_};
 ghost use mathlib.Core.List.{[], _∷_};
 ghost use Prim.Native.Nat.{_<_};
@@ -146,39 +147,18 @@ pub fn first_unordered(
     left.len()
 }
 
-// Whether an earlier edge of the same child shares a position with edge i.
-fn shared_at(left: &[u32], right: &[u32], parent: &[u32], child: &[u32], i: usize) -> bool
-    requires { ⌜ (i < length (now left)) × EvenEdges (record { left = now left; right = now right; parent = now parent; child = now child }) ⌝ }
-    ensures { λ r. ⌜ r ≡ edgeShared (record { left = now (left .entry); right = now (right .entry); parent = now (parent .entry); child = now (child .entry) }) i ⌝ }
-{
-    let l = left[i];
-    let r = right[i];
-    let c = child[i];
-    let mut j = i;
-    while 0 < j {
-        j -= 1;
-        if child[j] == c {
-            if left[j] < r {
-                if l < right[j] {
-                    return true;
-                }
-            }
-        }
-    }
-    false
-}
-
-// 7: the lowest such edge.
+// 7: the lowest edge that shares a position with an earlier edge of the same child.
 pub fn first_shared(left: &[u32], right: &[u32], parent: &[u32], child: &[u32]) -> usize
     requires { ⌜ EvenEdges (record { left = now left; right = now right; parent = now parent; child = now child }) ⌝ }
     ensures { λ r. ⌜ r ≡ lowest (edgeShared (record { left = now (left .entry); right = now (right .entry); parent = now (parent .entry); child = now (child .entry) })) (length (now (left .entry))) ⌝ }
 {
-    let mut i = 0;
-    while i < left.len() {
-        if shared_at(left, right, parent, child, i) {
-            return i;
-        }
-        i += 1;
+    let n = left.len();
+    if EdgeTable::MOST < n {
+        return crate::shared::first_by_pairs(left, right, parent, child);
     }
-    left.len()
+    if crate::shared::some_nowhere(left, right, parent, child) {
+        return crate::shared::first_by_pairs(left, right, parent, child);
+    }
+    let mut idx = [0u32; EdgeTable::MOST];
+    crate::shared::first_by_order(left, right, parent, child, &mut idx[..n])
 }

@@ -1,50 +1,36 @@
--- `first_repeated` meets its contract: no row before the one looked at repeats an earlier one.
-use mathlib.Core.Path.{sym, _∙_}
-use Prim.Native.Nat.{_≤_, _-_}
-use lib.ListN.{length}
-use Rattle.meaning.specs.Check.{repeated}
-use Rattle.laws.specs.Counting.{Sought, sought-start, sought-hit, sought-miss, sought-none}
+-- `first_repeated` meets its contract: the working column stands on the stack.
+use mathlib.Core.Path.{sym}
+use Rattle.rules.proofs.Sorting.{front-long}
+use native.Mathlib.Omega.{arith}
 use borrow.Author.Needs.{needs}
 use Rattle.rules.proofs.columns.first_repeated.Statement.{statement}
 use Rattle.rules.proofs.columns.first_repeated.Tie as tie
 
-abbrev Inv-loop : tie.InvT-loop
-Inv-loop l i₀ i = (i ≤ length l) × Sought (repeated l) (length l) i
+first-by-pairs-requires : tie.Need-first-by-pairs-requires
+first-by-pairs-requires c κs = search needs
 
-abbrev μ-loop : tie.MeasureT-loop
-μ-loop l i₀ i = length l - i
+returns : tie.Need-returns
+returns c = search needs
 
-loop-holds : tie.Need-loop-holds Inv-loop μ-loop
-loop-holds c = (search needs, sought-start _ _)
+array-borrow-prefix-idx : tie.Need-array-borrow-prefix-idx
+array-borrow-prefix-idx c = search needs
 
-repeated-at-requires : tie.Need-repeated-at-requires Inv-loop μ-loop
-repeated-at-requires c κs = search needs
+slice-aggregate-first-by-order : tie.Need-slice-aggregate-first-by-order
+slice-aggregate-first-by-order c = front-long 1024 _ (c .before .if1 .left)
 
-returns : tie.Need-returns Inv-loop μ-loop
-returns c = sought-hit _ _ _ (c .before .before .loop-test .taken) (c .before .before .before .loop .inv .1) (sym (c .before .repeated-at .ensures) ∙ c .if1 .taken)
+first-by-order-requires : tie.Need-first-by-order-requires
+first-by-order-requires c κs = (sym (front-long 1024 _ (c .before .if1 .left)), omega (arith, c .before .if1 .left))
 
-add-i : tie.Need-add-i Inv-loop μ-loop
-add-i c = search needs
-
-loop-less : tie.Need-loop-less Inv-loop μ-loop
-loop-less c = search needs
-
-loop-again : tie.Need-loop-again Inv-loop μ-loop
-loop-again c = (search needs, sought-miss _ _ _ (c .before .before .loop-test .taken) (c .before .before .before .loop .inv .1) (sym (c .before .repeated-at .ensures) ∙ c .if1 .left))
-
-returns-2 : tie.Need-returns-2 Inv-loop μ-loop
-returns-2 c = sought-none _ _ _ (c .before .loop .inv .0) (c .loop-test .left) (c .before .loop .inv .1)
+returns-2 : tie.Need-returns-2
+returns-2 c = search needs
 
 pub first-repeated-spec : {M : Type 1} → statement M
 first-repeated-spec =
     tie.close
     (tie.spec
-    Inv-loop
-    μ-loop
-    loop-holds
-    repeated-at-requires
+    first-by-pairs-requires
     returns
-    add-i
-    loop-less
-    loop-again
+    array-borrow-prefix-idx
+    slice-aggregate-first-by-order
+    first-by-order-requires
     returns-2)

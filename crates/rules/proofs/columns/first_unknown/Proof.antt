@@ -1,61 +1,36 @@
--- `first_unknown` meets its contract: every sample before the one looked at names a node.
-use mathlib.Core.Path.{sym, ap, _∙_}
-use Prim.Native.Nat.{_≤_, _-_}
-use lib.ListN.{length}
-use mathlib.Core.Bool.{not}
-use Rattle.meaning.specs.Check.{sampleUnknown}
-use Rattle.laws.specs.Counting.{Sought, sought-start, sought-hit, sought-miss, sought-none}
+-- `first_unknown` meets its contract: the working column stands on the stack.
+use mathlib.Core.Path.{sym}
+use Rattle.rules.proofs.Sorting.{front-long}
+use native.Mathlib.Omega.{arith}
 use borrow.Author.Needs.{needs}
 use Rattle.rules.proofs.columns.first_unknown.Statement.{statement}
 use Rattle.rules.proofs.columns.first_unknown.Tie as tie
 
-abbrev Inv-loop : tie.InvT-loop
-Inv-loop birth samples i₀ i = (i ≤ length samples) × Sought (sampleUnknown birth samples) (length samples) i
+first-by-pairs-requires : tie.Need-first-by-pairs-requires
+first-by-pairs-requires c κs = search needs
 
-abbrev μ-loop : tie.MeasureT-loop
-μ-loop birth samples i₀ i = length samples - i
+returns : tie.Need-returns
+returns c = search needs
 
-loop-holds : tie.Need-loop-holds Inv-loop μ-loop
-loop-holds c = (search needs, sought-start _ _)
+array-borrow-prefix-idx : tie.Need-array-borrow-prefix-idx
+array-borrow-prefix-idx c = search needs
 
-mul-has : tie.Need-mul-has Inv-loop μ-loop
-mul-has c = search needs
+slice-aggregate-first-by-order : tie.Need-slice-aggregate-first-by-order
+slice-aggregate-first-by-order c = front-long 1024 _ (c .before .if1 .left)
 
-shared-slice-read-has : tie.Need-shared-slice-read-has Inv-loop μ-loop
-shared-slice-read-has c = search needs
+first-by-order-requires : tie.Need-first-by-order-requires
+first-by-order-requires c κs = (sym (front-long 1024 _ (c .before .if1 .left)), omega (arith, c .before .if1 .left))
 
-has-requires : tie.Need-has-requires Inv-loop μ-loop
-has-requires c κs = search needs
-
-returns : tie.Need-returns Inv-loop μ-loop
-unfolding sampleUnknown
-returns c = sought-hit _ _ _ (c .before .before .before .loop-test .taken) (c .before .before .before .before .loop .inv .1) (ap not (sym (c .before .has .ensures)) ∙ c .if1 .taken)
-
-add-i : tie.Need-add-i Inv-loop μ-loop
-add-i c = search needs
-
-loop-less : tie.Need-loop-less Inv-loop μ-loop
-loop-less c = search needs
-
-loop-again : tie.Need-loop-again Inv-loop μ-loop
-unfolding sampleUnknown
-loop-again c = (search needs, sought-miss _ _ _ (c .before .before .before .loop-test .taken) (c .before .before .before .before .loop .inv .1) (ap not (sym (c .before .has .ensures)) ∙ c .if1 .left))
-
-returns-2 : tie.Need-returns-2 Inv-loop μ-loop
-returns-2 c = sought-none _ _ _ (c .before .loop .inv .0) (c .loop-test .left) (c .before .loop .inv .1)
+returns-2 : tie.Need-returns-2
+returns-2 c = search needs
 
 pub first-unknown-spec : {M : Type 1} → statement M
 first-unknown-spec =
     tie.close
     (tie.spec
-    Inv-loop
-    μ-loop
-    loop-holds
-    mul-has
-    shared-slice-read-has
-    has-requires
+    first-by-pairs-requires
     returns
-    add-i
-    loop-less
-    loop-again
+    array-borrow-prefix-idx
+    slice-aggregate-first-by-order
+    first-by-order-requires
     returns-2)

@@ -1,50 +1,48 @@
--- `first_shared` meets its contract: no edge before the one looked at shares a position with an earlier one.
-use mathlib.Core.Path.{sym, _∙_}
-use Prim.Native.Nat.{_≤_, _-_}
-use lib.ListN.{length}
-use Rattle.meaning.specs.Check.{edgeShared}
-use Rattle.laws.specs.Counting.{Sought, sought-start, sought-hit, sought-miss, sought-none}
+-- `first_shared` meets its contract: every edge holds somewhere, and the working column stands on the stack.
+use mathlib.Core.Path.{sym}
+use Rattle.rules.proofs.Sorting.{front-long, all-somewhere}
+use native.Mathlib.Omega.{arith}
 use borrow.Author.Needs.{needs}
 use Rattle.rules.proofs.edges.first_shared.Statement.{statement}
 use Rattle.rules.proofs.edges.first_shared.Tie as tie
 
-abbrev Inv-loop : tie.InvT-loop
-Inv-loop left right parent child i₀ i = (i ≤ length left) × Sought (edgeShared (record { left = left; right = right; parent = parent; child = child })) (length left) i
+first-by-pairs-requires : tie.Need-first-by-pairs-requires
+first-by-pairs-requires c κs = search needs
 
-abbrev μ-loop : tie.MeasureT-loop
-μ-loop left right parent child i₀ i = length left - i
+returns : tie.Need-returns
+returns c = search needs
 
-loop-holds : tie.Need-loop-holds Inv-loop μ-loop
-loop-holds c = (search needs, sought-start _ _)
+some-nowhere-requires : tie.Need-some-nowhere-requires
+some-nowhere-requires c κs = search needs
 
-shared-at-requires : tie.Need-shared-at-requires Inv-loop μ-loop
-shared-at-requires c κs = search needs
+first-by-pairs-requires-2 : tie.Need-first-by-pairs-requires-2
+first-by-pairs-requires-2 c κs = search needs
 
-returns : tie.Need-returns Inv-loop μ-loop
-returns c = sought-hit _ _ _ (c .before .before .loop-test .taken) (c .before .before .before .loop .inv .1) (sym (c .before .shared-at .ensures) ∙ c .if1 .taken)
+returns-2 : tie.Need-returns-2
+returns-2 c = search needs
 
-add-i : tie.Need-add-i Inv-loop μ-loop
-add-i c = search needs
+array-borrow-prefix-idx : tie.Need-array-borrow-prefix-idx
+array-borrow-prefix-idx c = search needs
 
-loop-less : tie.Need-loop-less Inv-loop μ-loop
-loop-less c = search needs
+slice-aggregate-first-by-order : tie.Need-slice-aggregate-first-by-order
+slice-aggregate-first-by-order c = front-long 4096 _ (c .before .before .before .if1 .left)
 
-loop-again : tie.Need-loop-again Inv-loop μ-loop
-loop-again c = (search needs, sought-miss _ _ _ (c .before .before .loop-test .taken) (c .before .before .before .loop .inv .1) (sym (c .before .shared-at .ensures) ∙ c .if1 .left))
+first-by-order-requires : tie.Need-first-by-order-requires
+first-by-order-requires c κs = (search needs, all-somewhere _ _ (c .before .if2 .left) (c .before .before .some-nowhere .ensures), sym (front-long 4096 _ (c .before .before .before .if1 .left)), omega (arith, c .before .before .before .if1 .left))
 
-returns-2 : tie.Need-returns-2 Inv-loop μ-loop
-returns-2 c = sought-none _ _ _ (c .before .loop .inv .0) (c .loop-test .left) (c .before .loop .inv .1)
+returns-3 : tie.Need-returns-3
+returns-3 c = search needs
 
 pub first-shared-spec : {M : Type 1} → statement M
 first-shared-spec =
     tie.close
     (tie.spec
-    Inv-loop
-    μ-loop
-    loop-holds
-    shared-at-requires
+    first-by-pairs-requires
     returns
-    add-i
-    loop-less
-    loop-again
-    returns-2)
+    some-nowhere-requires
+    first-by-pairs-requires-2
+    returns-2
+    array-borrow-prefix-idx
+    slice-aggregate-first-by-order
+    first-by-order-requires
+    returns-3)

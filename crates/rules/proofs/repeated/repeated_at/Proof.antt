@@ -6,8 +6,8 @@ use Rattle.meaning.specs.Words.{anyBelow}
 use Rattle.meaning.specs.Check.{repeated}
 use Rattle.rules.proofs.Laws.{alike, down-hit, down-miss, down-end}
 use borrow.Author.Needs.{needs}
-use Rattle.rules.proofs.columns.repeated_at.Statement.{statement}
-use Rattle.rules.proofs.columns.repeated_at.Tie as tie
+use Rattle.rules.proofs.repeated.repeated_at.Statement.{statement}
+use Rattle.rules.proofs.repeated.repeated_at.Tie as tie
 
 abbrev Inv-loop : tie.InvT-loop
 Inv-loop l i b j₀ j = (j ≤ i) × (anyBelow (alike l i) j ≡ repeated l i)

@@ -1,0 +1,50 @@
+-- `first_by_pairs` meets its contract: no row before the one looked at repeats an earlier one.
+use mathlib.Core.Path.{sym, _∙_}
+use Prim.Native.Nat.{_≤_, _-_}
+use lib.ListN.{length}
+use Rattle.meaning.specs.Check.{repeated}
+use Rattle.laws.specs.Counting.{Sought, sought-start, sought-hit, sought-miss, sought-none}
+use borrow.Author.Needs.{needs}
+use Rattle.rules.proofs.repeated.first_by_pairs.Statement.{statement}
+use Rattle.rules.proofs.repeated.first_by_pairs.Tie as tie
+
+abbrev Inv-loop : tie.InvT-loop
+Inv-loop l i₀ i = (i ≤ length l) × Sought (repeated l) (length l) i
+
+abbrev μ-loop : tie.MeasureT-loop
+μ-loop l i₀ i = length l - i
+
+loop-holds : tie.Need-loop-holds Inv-loop μ-loop
+loop-holds c = (search needs, sought-start _ _)
+
+repeated-at-requires : tie.Need-repeated-at-requires Inv-loop μ-loop
+repeated-at-requires c κs = search needs
+
+returns : tie.Need-returns Inv-loop μ-loop
+returns c = sought-hit _ _ _ (c .before .before .loop-test .taken) (c .before .before .before .loop .inv .1) (sym (c .before .repeated-at .ensures) ∙ c .if1 .taken)
+
+add-i : tie.Need-add-i Inv-loop μ-loop
+add-i c = search needs
+
+loop-less : tie.Need-loop-less Inv-loop μ-loop
+loop-less c = search needs
+
+loop-again : tie.Need-loop-again Inv-loop μ-loop
+loop-again c = (search needs, sought-miss _ _ _ (c .before .before .loop-test .taken) (c .before .before .before .loop .inv .1) (sym (c .before .repeated-at .ensures) ∙ c .if1 .left))
+
+returns-2 : tie.Need-returns-2 Inv-loop μ-loop
+returns-2 c = sought-none _ _ _ (c .before .loop .inv .0) (c .loop-test .left) (c .before .loop .inv .1)
+
+pub first-by-pairs-spec : {M : Type 1} → statement M
+first-by-pairs-spec =
+    tie.close
+    (tie.spec
+    Inv-loop
+    μ-loop
+    loop-holds
+    repeated-at-requires
+    returns
+    add-i
+    loop-less
+    loop-again
+    returns-2)

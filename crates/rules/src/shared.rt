@@ -1,0 +1,139 @@
+// Rule 7: the lowest edge that shares a position with an earlier edge of its child, in n log n steps.
+// The edges are sorted by (child, left) once; then the bound below which some edge shares is found by halving.
+ghost use mathlib.Core.Path.{_≡_};
+ghost use Prim.Native.Nat.{_<_, _≤_};
+ghost use lib.ListN.{length};
+ghost use Rattle.meaning.specs.Words.{lowest, anyBelow};
+ghost use Rattle.meaning.specs.Check.{share, edgeShared};
+ghost use Rattle.rules.specs.Asked.{EvenEdges};
+ghost use Rattle.rules.specs.Lined.{Lined, Somewhere, holdsNowhere};
+
+// Whether edges j and i have one child and share a position.
+fn shares(left: &[u32], right: &[u32], parent: &[u32], child: &[u32], j: usize, i: usize) -> bool
+    requires { ⌜ (j < length (now left)) × (i < length (now left)) × EvenEdges (record { left = now left; right = now right; parent = now parent; child = now child }) ⌝ }
+    ensures { λ r. ⌜ r ≡ share (record { left = now (left .entry); right = now (right .entry); parent = now (parent .entry); child = now (child .entry) }) j i ⌝ }
+{
+    if child[j] != child[i] {
+        return false;
+    }
+    if right[i] <= left[j] {
+        return false;
+    }
+    left[i] < right[j]
+}
+
+// Whether some edge below k shares a position with an earlier one: of the edges below k in order, each is compared with the next.
+fn some_shared(
+    left: &[u32],
+    right: &[u32],
+    parent: &[u32],
+    child: &[u32],
+    idx: &[u32],
+    k: usize,
+) -> bool
+    requires { ⌜ EvenEdges (record { left = now left; right = now right; parent = now parent; child = now child }) × Lined (share (record { left = now left; right = now right; parent = now parent; child = now child })) (length (now left)) (now idx) × (k ≤ length (now left)) ⌝ }
+    ensures { λ r. ⌜ r ≡ anyBelow (edgeShared (record { left = now (left .entry); right = now (right .entry); parent = now (parent .entry); child = now (child .entry) })) k ⌝ }
+{
+    let mut p = crate::places::next_below(idx, k, 0);
+    while p < idx.len() {
+        let q = crate::places::next_below(idx, k, p + 1);
+        if idx.len() <= q {
+            return false;
+        }
+        if shares(left, right, parent, child, idx[p] as usize, idx[q] as usize) {
+            return true;
+        }
+        p = q;
+    }
+    false
+}
+
+// The lowest edge that shares a position with an earlier one, by halving the range in which it lies.
+fn first_lined(left: &[u32], right: &[u32], parent: &[u32], child: &[u32], idx: &[u32]) -> usize
+    requires { ⌜ EvenEdges (record { left = now left; right = now right; parent = now parent; child = now child }) × Lined (share (record { left = now left; right = now right; parent = now parent; child = now child })) (length (now left)) (now idx) ⌝ }
+    ensures { λ r. ⌜ r ≡ lowest (edgeShared (record { left = now (left .entry); right = now (right .entry); parent = now (parent .entry); child = now (child .entry) })) (length (now (left .entry))) ⌝ }
+{
+    if !some_shared(left, right, parent, child, idx, left.len()) {
+        return left.len();
+    }
+    let mut low = 0;
+    let mut high = left.len();
+    while low < high {
+        let m = crate::places::middle(low, high);
+        if some_shared(left, right, parent, child, idx, m + 1) {
+            high = m;
+        } else {
+            low = m + 1;
+        }
+    }
+    low
+}
+
+// Sorts the edges by (child, left); each of them holds somewhere.
+fn line_up(left: &[u32], right: &[u32], parent: &[u32], child: &[u32], idx: &mut [u32])
+    requires { ⌜ EvenEdges (record { left = now left; right = now right; parent = now parent; child = now child }) × Somewhere (record { left = now left; right = now right; parent = now parent; child = now child }) × (length (now idx) ≡ length (now left)) × (length (now left) ≤ 4294967296) ⌝ }
+    ensures { λ _. ⌜ Lined (share (record { left = now (left .entry); right = now (right .entry); parent = now (parent .entry); child = now (child .entry) })) (length (now (left .entry))) (now (idx .exit)) ⌝ }
+{
+    order::iota(idx);
+    order::sort_rows(child, left, left, left, idx);
+}
+
+// The lowest edge that shares a position with an earlier one; idx is a working column with a cell for each edge.
+pub fn first_by_order(
+    left: &[u32],
+    right: &[u32],
+    parent: &[u32],
+    child: &[u32],
+    idx: &mut [u32],
+) -> usize
+    requires { ⌜ EvenEdges (record { left = now left; right = now right; parent = now parent; child = now child }) × Somewhere (record { left = now left; right = now right; parent = now parent; child = now child }) × (length (now idx) ≡ length (now left)) × (length (now left) ≤ 4294967296) ⌝ }
+    ensures { λ r. ⌜ r ≡ lowest (edgeShared (record { left = now (left .entry); right = now (right .entry); parent = now (parent .entry); child = now (child .entry) })) (length (now (left .entry))) ⌝ }
+{
+    line_up(left, right, parent, child, idx);
+    first_lined(left, right, parent, child, idx)
+}
+
+// Whether some edge holds nowhere.
+pub fn some_nowhere(left: &[u32], right: &[u32], parent: &[u32], child: &[u32]) -> bool
+    requires { ⌜ EvenEdges (record { left = now left; right = now right; parent = now parent; child = now child }) ⌝ }
+    ensures { λ r. ⌜ r ≡ anyBelow (holdsNowhere (record { left = now (left .entry); right = now (right .entry); parent = now (parent .entry); child = now (child .entry) })) (length (now (left .entry))) ⌝ }
+{
+    let mut j = left.len();
+    while 0 < j {
+        j -= 1;
+        if right[j] <= left[j] {
+            return true;
+        }
+    }
+    false
+}
+
+// Whether an earlier edge of the same child shares a position with edge i.
+fn shared_at(left: &[u32], right: &[u32], parent: &[u32], child: &[u32], i: usize) -> bool
+    requires { ⌜ (i < length (now left)) × EvenEdges (record { left = now left; right = now right; parent = now parent; child = now child }) ⌝ }
+    ensures { λ r. ⌜ r ≡ edgeShared (record { left = now (left .entry); right = now (right .entry); parent = now (parent .entry); child = now (child .entry) }) i ⌝ }
+{
+    let mut j = i;
+    while 0 < j {
+        j -= 1;
+        if shares(left, right, parent, child, j, i) {
+            return true;
+        }
+    }
+    false
+}
+
+// The lowest such edge by comparing edges in pairs, for columns that an earlier rule refuses: too long, or with an edge that holds nowhere.
+pub fn first_by_pairs(left: &[u32], right: &[u32], parent: &[u32], child: &[u32]) -> usize
+    requires { ⌜ EvenEdges (record { left = now left; right = now right; parent = now parent; child = now child }) ⌝ }
+    ensures { λ r. ⌜ r ≡ lowest (edgeShared (record { left = now (left .entry); right = now (right .entry); parent = now (parent .entry); child = now (child .entry) })) (length (now (left .entry))) ⌝ }
+{
+    let mut i = 0;
+    while i < left.len() {
+        if shared_at(left, right, parent, child, i) {
+            return i;
+        }
+        i += 1;
+    }
+    left.len()
+}
