@@ -102,7 +102,11 @@ unfolding edgeShared share
 single E h = record { one = λ e f x a b q m n. go e f x a b q m n (ltb e f) refl (ltb f e) refl }
   where
     meet : (e f x : ℕ) → at (E .child) e ≡ at (E .child) f → Holding (E .left) (E .right) x e → Holding (E .left) (E .right) x f → share E e f ≡ true
-    meet e f x q m n = and-yes (eq-eqb _ _ q) (and-yes (lt-ltb _ _ (omega (arith, m .begun, n .lasts))) (lt-ltb _ _ (omega (arith, n .begun, m .lasts))))
+    meet e f x q m n = and-yes
+        (eq-eqb (at (E .child) e) (at (E .child) f) q)
+        (and-yes
+        (lt-ltb (at (E .left) e) (at (E .right) f) (omega (arith, m .begun, n .lasts)))
+        (lt-ltb (at (E .left) f) (at (E .right) e) (omega (arith, n .begun, m .lasts))))
 
     go : (e f x : ℕ) → e < length (E .left) → f < length (E .left) → at (E .child) e ≡ at (E .child) f → Holding (E .left) (E .right) x e → Holding (E .left) (E .right) x f → (t : Bool) → ltb e f ≡ t → (u : Bool) → ltb f e ≡ u → e ≡ f
     go e f x a b q m n true y u z = absurd (clash (of-below (λ j. share E j f) f e (ltb-true e f y) (meet e f x q m n)) (h f b))
