@@ -1,42 +1,87 @@
--- Rule 10 row by row: what the marks of a site say of its mutations, and how one more mutation keeps that so.
+-- Rule 10 row by row: where a site ends, and which rows are above the mutations gone over.
 use mathlib.Core.Path.{_≡_, refl, sym, ap, _∙_}
 use mathlib.Core.Bool.{Bool, true, false, not}
 use mathlib.Core.List.{List}
 use mathlib.Core.Logic.{_⊎_, ⊎-elim}
 use Prim.Native.Nat.{ℕ, zero, suc, _+_, _-_, _<_, _≤_}
 use native.Mathlib.Omega.{arith}
-use lib.Dec.{eqb}
-use lib.ListN.{length, replicate}
-use borrow.Author.Tests.{eq-eqb, eqb-true, eqb-false}
-use Rattle.meaning.specs.Words.{and, or, at, anyBelow, rows}
+use lib.Dec.{eqb, leb}
+use lib.ListN.{length}
+use borrow.Author.Tests.{eq-eqb, eqb-true, eqb-false, le-leb, lt-leb, leb-false}
+use Rattle.meaning.specs.Words.{and, or, at, anyBelow, lowest}
 use Rattle.meaning.specs.Rows.{EdgeColumns}
 use Rattle.meaning.specs.Forest.{ancestor}
-use Rattle.laws.specs.Bools.{clash, eq?, and-of, or-right, not-of, not-no, not-true}
-use Rattle.laws.specs.Counting.{below-hit, below-miss, below-of}
-use Rattle.ancestry.specs.Column.{code, parentRow}
-use Rattle.ancestry.specs.Overtaken.{over, starts, Lined, TakenUp}
+use Rattle.laws.specs.Bools.{clash, eq?, and-of, or-no, or-right, not-of, not-no, not-true}
+use Rattle.laws.specs.Counting.{below-hit, below-miss, below-of, below-none, of-below, lowest-none}
+use Rattle.ancestry.specs.Column.{parentRow}
+use Rattle.ancestry.specs.Overtaken.{over, overtaken, ends, somePair, passed, Lined}
 
--- ---- where a site starts
+-- ---- where a site ends
 
 module _ (site : List ℕ) where
-  pub first-starts : (i : ℕ) → i ≡ 0 → true ≡ starts site i
-  unfolding starts
-  first-starts i e = ap (starts site) (sym e)
+  pub last-ends : (i : ℕ) → length site - i ≤ 1 → true ≡ ends site i
+  unfolding ends
+  last-ends i h = rw (le-leb (length site) (suc i) (omega arith))
 
-  pub later-starts : (i : ℕ) → (i ≡ 0 → ⊥) → not (eqb (at site (i - 1)) (at site i)) ≡ starts site i
-  unfolding starts
-  later-starts zero n = absurd (n refl)
-  later-starts (suc k) n = let q : suc k - 1 ≡ k = omega arith in ap (λ j. not (eqb (at site j) (at site (suc k)))) q
+  pub inner-ends : (i : ℕ) → 1 < length site - i → not (eqb (at site i) (at site (i + 1))) ≡ ends site i
+  unfolding ends
+  inner-ends i h =
+      let q : i + 1 ≡ suc i = omega arith in
+      rw (lt-leb (length site) (suc i) (omega arith)) (ap (λ j. not (eqb (at site i) (at site j))) q)
 
-  -- a row that starts no site has the site of the row before
-  pub goes-on : (i : ℕ) → starts site i ≡ false → (0 < i) × (at site (i - 1) ≡ at site i)
-  unfolding starts
-  goes-on zero h = absurd (clash refl h)
-  goes-on (suc k) h =
-      let q : suc k - 1 ≡ k = omega arith in
-      (omega arith, ap (at site) q ∙ eqb-true (at site k) (at site (suc k)) (not-no (eqb (at site k) (at site (suc k))) h))
+  -- a row that does not end its site has the site of the next row
+  pub goes-on : (i : ℕ) → ends site i ≡ false → (suc i < length site) × (at site i ≡ at site (suc i))
+  unfolding ends
+  goes-on i h =
+      let r : _ = or-no (leb (length site) (suc i)) (not (eqb (at site i) (at site (suc i)))) h in
+      (leb-false (length site) (suc i) (r .0), eqb-true (at site i) (at site (suc i)) (not-no (eqb (at site i) (at site (suc i))) (r .1)))
+
+  ends-of : (i : ℕ) → ends site i ≡ true → suc i < length site → at site i ≡ at site (suc i) → ⊥
+  unfolding ends
+  ends-of i h l = eqb-false (at site i) (at site (suc i)) (not-of (eqb (at site i) (at site (suc i))) (rw (lt-leb (length site) (suc i) l) at h))
+
+  -- ---- some site has two mutations
+
+  pub pair-found : (i : ℕ) → i < length site → not (ends site i) ≡ true → true ≡ somePair site
+  unfolding somePair
+  pair-found i l h = sym (of-below (λ j. not (ends site j)) (length site) i l h)
+
+  -- none among the rows gone over
+  pub pair-start : anyBelow (λ j. not (ends site j)) 0 ≡ false
+  pair-start = below-none (λ j. not (ends site j))
+
+  pub pair-miss : (i : ℕ) → not (ends site i) ≡ false → anyBelow (λ j. not (ends site j)) i ≡ false → anyBelow (λ j. not (ends site j)) (i + 1) ≡ false
+  pair-miss i h e = let q : i + 1 ≡ suc i = omega arith in ap (anyBelow (λ j. not (ends site j))) q ∙ below-miss (λ j. not (ends site j)) i h ∙ e
+
+  pub pair-none : (i : ℕ) → i ≤ length site → length site ≤ i → anyBelow (λ j. not (ends site j)) i ≡ false → false ≡ somePair site
+  unfolding somePair
+  pair-none i a b e = let q : i ≡ length site = omega arith in sym e ∙ ap (anyBelow (λ j. not (ends site j))) q
+
+  all-end : somePair site ≡ false → (i : ℕ) → i < length site → ends site i ≡ true
+  unfolding somePair
+  all-end h i l = not-no (ends site i) (not-true (not (ends site i)) (λ e. clash (of-below (λ j. not (ends site j)) (length site) i l e) h))
+
+  -- ---- the sites passed
+
+  pub none-passed : (i : ℕ) → i ≡ 0 → 0 ≡ passed site i
+  unfolding passed
+  none-passed i e = ap (passed site) (sym e)
+
+  pub some-passed : (i : ℕ) → (i ≡ 0 → ⊥) → at site (i - 1) + 1 ≡ passed site i
+  unfolding passed
+  some-passed zero n = absurd (n refl)
+  some-passed (suc k) n = let q : suc k - 1 ≡ k = omega arith in ap (λ j. at site j + 1) q
+
+  pub passed-next : (i : ℕ) → passed site (i + 1) ≡ at site i + 1
+  unfolding passed
+  passed-next i = let q : i + 1 ≡ suc i = omega arith in ap (passed site) q
 
   module _ (sites nodes : ℕ) (node : List ℕ) (ok : Lined sites nodes site node) where
+    pub passed-low : (i : ℕ) → i < length site → passed site i ≤ at site i + 1
+    unfolding passed
+    passed-low zero l = omega arith
+    passed-low (suc i) l = omega (arith, ok .rise i l)
+
     not-falling : (j i : ℕ) → j ≤ i → i < length site → at site j ≤ at site i
     not-falling j zero h l = let q : j ≡ 0 = omega arith in omega (arith, ap (at site) q)
     not-falling j (suc i) h l = ⊎-elim
@@ -44,23 +89,17 @@ module _ (site : List ℕ) where
         (λ (q : j ≡ suc i → ⊥). omega (arith, not-falling j i (omega arith) (omega arith), ok .rise i l))
         (eq? j (suc i))
 
-    -- where a site starts, all rows before have lower sites
-    lower-before : (i j : ℕ) → starts site i ≡ true → i < length site → j < i → at site j < at site i
-    unfolding starts
-    lower-before zero j s l h = absurd (omega arith)
-    lower-before (suc k) j s l h =
-        let n : at site k ≡ at site (suc k) → ⊥ = eqb-false (at site k) (at site (suc k)) (not-of (eqb (at site k) (at site (suc k))) s) in
-        omega (arith, n, not-falling j k (omega arith) (omega arith), ok .rise k l)
+    -- after a row that ends its site, all rows before have lower sites
+    pub lower-before : (i : ℕ) → ends site i ≡ true → suc i < length site → (j : ℕ) → j < suc i → at site j < at site (suc i)
+    lower-before i h l j k = omega (arith, ends-of i h l, not-falling j i (omega arith) (omega arith), ok .rise i l)
 
 -- ---- the rows above the mutations gone over
 
 module _ (E : EdgeColumns) (position site node : List ℕ) where
   -- one more mutation of the site
-  pub over-next : (s i v : ℕ) → at site i ≡ s → over E position site node s (i + 1) v ≡ or (over E position site node s i v) (ancestor (parentRow E (at position s)) v (at node i))
+  pub over-next : (s i v : ℕ) → at site i ≡ s → over E position site node s (suc i) v ≡ or (over E position site node s i v) (ancestor (parentRow E (at position s)) v (at node i))
   unfolding over
-  over-next s i v e =
-      let q : i + 1 ≡ suc i = omega arith in
-      ap (anyBelow f) q ∙ go (ancestor (parentRow E (at position s)) v (at node i)) refl
+  over-next s i v e = go (ancestor (parentRow E (at position s)) v (at node i)) refl
     where
       f : ℕ → Bool
       f j = and (eqb (at site j) s) (ancestor (parentRow E (at position s)) v (at node j))
@@ -73,33 +112,23 @@ module _ (E : EdgeColumns) (position site node : List ℕ) where
           or-false true = refl
           or-false false = refl
 
-  -- none where the site starts
-  pub over-start : (sites nodes : ℕ) → Lined sites nodes site node → (i v : ℕ) → i < length site → starts site i ≡ true → over E position site node (at site i) i v ≡ false
+  -- none where all rows before have lower sites
+  pub over-none : (s i v : ℕ) → ((j : ℕ) → j < i → at site j < s) → over E position site node s i v ≡ false
   unfolding over
-  over-start sites nodes ok i v l s =
-      not-true (anyBelow f i) (λ h.
-      let r : _ = below-of f i h in
-      let q : at site (r .0) ≡ at site i = eqb-true (at site (r .0)) (at site i) (and-of _ _ (r .2) .0) in
-      absurd (omega (arith, lower-before site sites nodes node ok i (r .0) s l (r .1))))
+  over-none s i v h =
+      not-true (anyBelow f i) (λ g.
+      let r : _ = below-of f i g in
+      let q : at site (r .0) ≡ s = eqb-true (at site (r .0)) s (and-of _ _ (r .2) .0) in
+      absurd (omega (arith, h (r .0) (r .1))))
     where
       f : ℕ → Bool
-      f j = and (eqb (at site j) (at site i)) (ancestor (parentRow E (at position (at site i))) v (at node j))
+      f j = and (eqb (at site j) s) (ancestor (parentRow E (at position s)) v (at node j))
 
--- ---- a site taken up
-
-module _ (E : EdgeColumns) (position site : List ℕ) (i : ℕ) (par marks : List ℕ) where
-  pub taken-anew : (par' marks' : List ℕ) → starts site i ≡ true → par' ≡ rows (λ u. code (parentRow E (at position (at site i)) u)) (length par) → marks' ≡ replicate (length marks) 0 → TakenUp E position site i par marks par' marks'
-  taken-anew par' marks' s p m = record {
-    parents-anew = λ t. p;
-    marks-anew = λ t. m;
-    parents-kept = λ t. absurd (clash s t);
-    marks-kept = λ t. absurd (clash s t);
-  }
-
-  pub taken-kept : starts site i ≡ false → TakenUp E position site i par marks par marks
-  taken-kept s = record {
-    parents-anew = λ t. absurd (clash t s);
-    marks-anew = λ t. absurd (clash t s);
-    parents-kept = λ t. refl;
-    marks-kept = λ t. refl;
-  }
+  -- without two mutations at a site no row is above another
+  pub none-overtaken : (sites nodes : ℕ) → Lined sites nodes site node → somePair site ≡ false → length site ≡ lowest (overtaken E position site node) (length site)
+  unfolding overtaken
+  none-overtaken sites nodes ok h = sym (lowest-none (overtaken E position site node) (length site) free)
+    where
+      free : (i : ℕ) → i < length site → over E position site node (at site i) i (at node i) ≡ false
+      free zero l = over-none (at site 0) 0 (at node 0) (λ j k. absurd (omega arith))
+      free (suc i) l = over-none (at site (suc i)) (suc i) (at node (suc i)) (lower-before site sites nodes node ok i (all-end site h i (omega arith)) l)

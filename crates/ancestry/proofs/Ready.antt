@@ -1,119 +1,132 @@
--- The working columns as the loop over the mutations keeps them: a site's parents, and its marks by the mutations gone over.
+-- The stamps as the loop over the mutations keeps them: those of a site say which rows are above its mutations gone over.
 use mathlib.Core.Path.{_≡_, refl, sym, ap, ap₂, subst, _∙_}
 use mathlib.Core.Bool.{Bool, true, false}
 use mathlib.Core.List.{List}
-use mathlib.Core.Logic.{_⊎_, ⊎-elim}
+use mathlib.Core.Logic.{_⊎_, inl, inr, ⊎-elim}
 use Prim.Native.Nat.{ℕ, zero, suc, _+_, _-_, _<_, _≤_}
 use native.Mathlib.Omega.{arith}
-use lib.Dec.{eqb}
-use lib.ListN.{length, replicate}
-use borrow.Author.Tests.{eq-eqb, ne-eqb}
+use lib.Dec.{eqb, ltb}
+use lib.ListN.{length, replicate, List·getD-eq-default}
+use borrow.Author.Tests.{eq-eqb, ne-eqb, ltb-true, ltb-false}
 use Rattle.meaning.specs.Words.{or, at, rows}
 use Rattle.meaning.specs.Rows.{EdgeColumns}
 use Rattle.meaning.specs.Forest.{ancestor}
-use Rattle.laws.specs.Bools.{clash, truth}
+use Rattle.laws.specs.Bools.{clash}
 use Rattle.laws.specs.Counting.{length-rows, get-rows}
-use Rattle.ancestry.specs.Column.{no-row, code, parOf, parentRow, Fitting, Rising}
-use Rattle.ancestry.specs.Coded.{parents-coded, parents-upward}
-use Rattle.ancestry.specs.Marks.{bit, marked, Bits, Closed, Markable, MarkedUp}
-use Rattle.ancestry.specs.Overtaken.{over, overtaken, starts, Lined, Ordered, TakenUp}
-use Rattle.ancestry.proofs.Overtaking.{goes-on, over-next, over-start}
+use Rattle.ancestry.specs.Column.{no-row, parentRow, Rising}
+use Rattle.ancestry.specs.Arrivals.{Current}
+use Rattle.ancestry.specs.Stamps.{stamped, stampIf, Stampable, StampedUp}
+use Rattle.ancestry.specs.Overtaken.{over, overtaken, ends, Lined, Ordered, Ready, ReadyNext}
+use Rattle.ancestry.proofs.Overtaking.{goes-on, lower-before, over-next, over-none}
 
--- the columns at site row s after the first i mutations
-pub record Ready (E : EdgeColumns) (position site node : List ℕ) (s i : ℕ) (par marks : List ℕ) : Type 0 where
-  pub parents : par ≡ rows (λ u. code (parentRow E (at position s) u)) (length par)
-  pub cells : (v : ℕ) → v < length marks → at marks v ≡ bit (over E position site node s i v)
-  pub closed : Closed (parentRow E (at position s)) marks
+-- a bound of all cells holds past the end, where 0 is read
+all-low : (l : List ℕ) (b : ℕ) → ((v : ℕ) → v < length l → at l v ≤ b) → (v : ℕ) → at l v ≤ b
+all-low l b h v = go (ltb v (length l)) refl
+  where
+    go : (t : Bool) → ltb v (length l) ≡ t → at l v ≤ b
+    go true e = h v (ltb-true v (length l) e)
+    go false e = omega (arith, List·getD-eq-default l 0 (ltb-false v (length l) e))
 
--- a cell that holds a truth value is marked if that is true
-bit-marked : (b : Bool) → eqb (bit b) 1 ≡ b
-unfolding bit
-bit-marked true = refl
-bit-marked false = refl
+-- a cell is stamped now if it was or if the test says so
+stamp-cell : (t c : ℕ) (b : Bool) → eqb (stampIf t b c) t ≡ or (eqb c t) b
+unfolding stampIf
+stamp-cell t c true = eq-eqb t t refl ∙ sym (or-true (eqb c t))
+  where
+    or-true : (a : Bool) → or a true ≡ true
+    or-true true = refl
+    or-true false = refl
+stamp-cell t c false = or-false (eqb c t)
+  where
+    or-false : (a : Bool) → a ≡ or a false
+    or-false true = refl
+    or-false false = refl
 
-zeros : (n v : ℕ) → at (replicate n 0) v ≡ 0
-zeros zero v = refl
-zeros (suc n) zero = refl
-zeros (suc n) (suc v) = zeros n v
-
-no-marks : (n v : ℕ) → marked (replicate n 0) v ≡ false
-unfolding marked
-no-marks n v = ap (λ c. eqb c 1) (zeros n v)
+cell-low : (t c : ℕ) (b : Bool) → c ≤ t → stampIf t b c ≤ t
+unfolding stampIf
+cell-low t c true h = omega arith
+cell-low t c false h = h
 
 module _ (E : EdgeColumns) (position site node : List ℕ) where
-  module _ (s i : ℕ) (par marks : List ℕ) (r : Ready E position site node s i par marks) where
-    marked-over : (v : ℕ) → v < length marks → marked marks v ≡ over E position site node s i v
-    unfolding marked
-    marked-over v l = ap (λ c. eqb c 1) (r .cells v l) ∙ bit-marked (over E position site node s i v)
+  -- lower stamps are none
+  ready-fresh : (s i : ℕ) (stamps : List ℕ) → ((v : ℕ) → at stamps v ≤ s) → ((j : ℕ) → j < i → at site j < s) → Ready E position site node s i stamps
+  unfolding stamped
+  ready-fresh s i stamps low before = record {
+    low = λ v l. omega (arith, low v);
+    cells = λ v l. free v ∙ sym (over-none E position site node s i v before);
+    closed = record { parent = λ v p e m. absurd (clash m (free v)) };
+  }
+    where
+      free : (v : ℕ) → eqb (at stamps v) (s + 1) ≡ false
+      free v = ne-eqb (at stamps v) (s + 1) (λ q. absurd (omega (arith, low v)))
 
-    ready-bits : Bits marks
-    ready-bits = record { cell = λ v l. r .cells v l ∙ ap bit (sym (marked-over v l)) }
+  pub ready-start : (stamps : List ℕ) → ((v : ℕ) → at stamps v ≡ 0) → Ready E position site node (at site 0) 0 stamps
+  ready-start stamps z = ready-fresh (at site 0) 0 stamps (λ v. omega (arith, z v)) (λ j l. absurd (omega arith))
 
-    module _ (time : List ℕ) (ok : Rising time E) (few : length time ≤ no-row) (room : length time ≤ length par) where
-      ready-coded : parOf par ≡ parentRow E (at position s)
-      ready-coded = ap parOf (r .parents) ∙ parents-coded time E ok (at position s) (length par) room few
+  module _ (s i : ℕ) (stamps : List ℕ) (r : Ready E position site node s i stamps) where
+    pub ready-stampable : (time cur : List ℕ) → Rising time E → length time ≤ no-row → Current (E .left) (E .right) (E .child) (at position s) cur → length time ≤ length cur → length time ≤ length stamps → (u : ℕ) → u < length time → Stampable time E (at position s) (s + 1) cur stamps u
+    ready-stampable time cur up few now cl sl u l = record {
+      rising = up;
+      few = few;
+      current = now;
+      cur-long = cl;
+      long = sl;
+      row = l;
+      closed = record { parent = λ v p n e m. r .closed .parent v p e m };
+    }
 
-      pub ready-markable : (u : ℕ) → u < length time → length time ≤ length marks → Markable time par marks u
-      ready-markable u h l = record {
-        upward = parents-upward time E ok (at position s) par room ready-coded;
-        long = l;
-        row = h;
-        bits = ready-bits;
-        closed = record { parent = λ v p n e m. r .closed .parent v p (rw ready-coded at e) m };
-      }
-
-      -- one more mutation of the site
-      pub ready-next : at site i ≡ s → (after : List ℕ) → MarkedUp (parOf par) (at node i) marks after → Ready E position site node s (i + 1) par after
-      ready-next e after m = record {
-        parents = r .parents;
-        cells = λ v l. let h : v < length marks = omega (arith, long) in ap (λ c. at c v) (m .cells) ∙ get-rows f 0 (length marks) v h ∙ ap bit (same v h);
-        closed = rw ready-coded at (m .closed);
-      }
-        where
-          f : ℕ → ℕ
-          f v = bit (or (marked marks v) (ancestor (parOf par) v (at node i)))
-
-          long : length after ≡ length marks
-          long = ap length (m .cells) ∙ length-rows f (length marks)
-
-          same : (v : ℕ) → v < length marks → or (marked marks v) (ancestor (parOf par) v (at node i)) ≡ over E position site node s (i + 1) v
-          same v h = ap₂ or (marked-over v h) (ap (λ P. ancestor P v (at node i)) ready-coded) ∙ sym (over-next E position site node s i v e)
-
-  -- what a mutation's own mark says
-  module _ (i : ℕ) (par marks : List ℕ) (r : Ready E position site node (at site i) i par marks) (h : at node i < length marks) where
-    pub mark-set : at marks (at node i) ≡ 1 → overtaken E position site node i ≡ true
-    unfolding overtaken marked
-    mark-set e = sym (marked-over (at site i) i par marks r (at node i) h) ∙ eq-eqb (at marks (at node i)) 1 e
-
-    pub mark-clear : (at marks (at node i) ≡ 1 → ⊥) → overtaken E position site node i ≡ false
-    unfolding overtaken marked
-    mark-clear n = sym (marked-over (at site i) i par marks r (at node i) h) ∙ ne-eqb (at marks (at node i)) 1 n
-
-  -- the columns after the site of row i is taken up
-  module _ (sites nodes : ℕ) (ok : Lined sites nodes site node) (i : ℕ) (l : i < length site) (par marks par' marks' : List ℕ) (t : TakenUp E position site i par marks par' marks') where
-    ready-anew : starts site i ≡ true → Ready E position site node (at site i) i par' marks'
-    unfolding bit
-    ready-anew s = record {
-      parents = t .parents-anew s ∙ ap (rows f) (sym (ap length (t .parents-anew s) ∙ length-rows f (length par)));
-      cells = λ v h. ap (λ c. at c v) (t .marks-anew s) ∙ zeros (length marks) v ∙ ap bit (sym (over-start E position site node sites nodes ok i v l s));
-      closed = record { parent = λ v p e m. absurd (clash m (ap (λ c. marked c v) (t .marks-anew s) ∙ no-marks (length marks) v)) };
+    -- one more mutation of the site
+    ready-on : at site i ≡ s → (after : List ℕ) → StampedUp (parentRow E (at position s)) (s + 1) (at node i) stamps after → Ready E position site node s (suc i) after
+    unfolding stamped
+    ready-on e after m = record {
+      low = λ v l. let h : v < length stamps = omega (arith, long) in let c : _ = cell v h in omega (arith, c, cell-low (s + 1) (at stamps v) (ancestor (parentRow E (at position s)) v (at node i)) (r .low v h));
+      cells = λ v l. let h : v < length stamps = omega (arith, long) in ap (λ c. eqb c (s + 1)) (cell v h) ∙ stamp-cell (s + 1) (at stamps v) (ancestor (parentRow E (at position s)) v (at node i)) ∙ ap (λ b. or b (ancestor (parentRow E (at position s)) v (at node i))) (r .cells v h) ∙ sym (over-next E position site node s i v e);
+      closed = m .closed;
     }
       where
         f : ℕ → ℕ
-        f u = code (parentRow E (at position (at site i)) u)
+        f v = stampIf (s + 1) (ancestor (parentRow E (at position s)) v (at node i)) (at stamps v)
 
-    ready-kept : starts site i ≡ false → (0 < i → Ready E position site node (at site (i - 1)) i par marks) → Ready E position site node (at site i) i par' marks'
-    ready-kept s r = let g : _ = goes-on site i s in rw (t .parents-kept s) (rw (t .marks-kept s) (rw (g .1) at (r (g .0))))
+        long : length after ≡ length stamps
+        long = ap length (m .cells) ∙ length-rows f (length stamps)
 
-    pub ready-taken : (0 < i → Ready E position site node (at site (i - 1)) i par marks) → Ready E position site node (at site i) i par' marks'
-    ready-taken r = ⊎-elim (λ (s : starts site i ≡ true). ready-anew s) (λ (s : starts site i ≡ false). ready-kept s r) (truth (starts site i))
+        cell : (v : ℕ) → v < length stamps → at after v ≡ stampIf (s + 1) (ancestor (parentRow E (at position s)) v (at node i)) (at stamps v)
+        cell v h = ap (λ c. at c v) (m .cells) ∙ get-rows f 0 (length stamps) v h
 
--- ---- as the loop meets it
+  module _ (i : ℕ) (stamps : List ℕ) (r : Ready E position site node (at site i) i stamps) where
+    -- the row ends its site: the next site's stamp is on no row
+    pub ready-new : (sites nodes : ℕ) → Lined sites nodes site node → ends site i ≡ true → ReadyNext E position site node i stamps
+    ready-new sites nodes ok h = record {
+      next = λ l. ready-fresh (at site (suc i)) (suc i) stamps
+          (λ v. omega (arith, all-low stamps (at site i + 1) (r .low) v, lower-before site sites nodes node ok i h l i (omega arith)))
+          (lower-before site sites nodes node ok i h l);
+    }
 
--- the working column takes every child
-pub ordered-fits : {time : List ℕ} {E : EdgeColumns} {position site node : List ℕ} {cells : ℕ} → Ordered time E position site node cells → (par : List ℕ) → length par ≡ cells → Fitting E (length par)
-ordered-fits o par q = record { even = o .rising .even; child-row = λ e l. omega (arith, o .rising .child-row e l, o .room) }
+    -- it does not: its ancestors are stamped
+    pub ready-more : ends site i ≡ false → (after : List ℕ) → StampedUp (parentRow E (at position (at site i))) (at site i + 1) (at node i) stamps after → ReadyNext E position site node i after
+    ready-more h after m = record {
+      next = λ l. subst (λ s. Ready E position site node s (suc i) after) (goes-on site i h .1) (ready-on (at site i) i stamps r refl after m);
+    }
 
--- the row before the next is this one
-pub ready-before : {E : EdgeColumns} {position site node : List ℕ} (i : ℕ) {par marks : List ℕ} → Ready E position site node (at site i) (i + 1) par marks → 0 < i + 1 → Ready E position site node (at site (i + 1 - 1)) (i + 1) par marks
-ready-before {E} {position} {site} {node} i {par} {marks} r h = let q : i ≡ i + 1 - 1 = omega arith in subst (λ k. Ready E position site node (at site k) (i + 1) par marks) q r
+    -- what a mutation's own stamp says
+    module _ (h : at node i < length stamps) where
+      pub stamp-set : at stamps (at node i) ≡ at site i + 1 → overtaken E position site node i ≡ true
+      unfolding overtaken stamped
+      stamp-set e = sym (r .cells (at node i) h) ∙ eq-eqb (at stamps (at node i)) (at site i + 1) e
+
+      pub stamp-clear : (at stamps (at node i) ≡ at site i + 1 → ⊥) → overtaken E position site node i ≡ false
+      unfolding overtaken stamped
+      stamp-clear n = sym (r .cells (at node i) h) ∙ ne-eqb (at stamps (at node i)) (at site i + 1) n
+
+-- the loop counts on by adding one
+pub ready-later : {E : EdgeColumns} {position site node : List ℕ} (i : ℕ) {stamps : List ℕ} → ReadyNext E position site node i stamps → i + 1 < length site → Ready E position site node (at site (i + 1)) (i + 1) stamps
+ready-later {E} {position} {site} {node} i {stamps} r l = let q : suc i ≡ i + 1 = omega arith in subst (λ k. Ready E position site node (at site k) k stamps) q (r .next (omega arith))
+
+-- working columns of the same length will do
+pub still-ordered : {time : List ℕ} {E : EdgeColumns} {position site node : List ℕ} (n m : ℕ) → m ≡ n → Ordered time E position site node n → Ordered time E position site node m
+still-ordered {time} {E} {position} {site} {node} n m q ok = subst (λ k. Ordered time E position site node k) (sym q) ok
+
+-- columns begin with 0 in each cell
+pub zeros : (n v : ℕ) → at (replicate n 0) v ≡ 0
+zeros zero v = refl
+zeros (suc n) zero = refl
+zeros (suc n) (suc v) = zeros n v

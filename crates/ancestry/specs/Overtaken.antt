@@ -2,14 +2,15 @@
 use mathlib.Core.Path.{_≡_, refl, ap, fun-ext}
 use mathlib.Core.Bool.{Bool, true, false, not}
 use mathlib.Core.List.{List}
-use Prim.Native.Nat.{ℕ, zero, suc, _<_, _≤_}
-use lib.Dec.{eqb}
-use lib.ListN.{length, replicate}
-use Rattle.meaning.specs.Words.{and, at, anyBelow, lowest, rows}
+use Prim.Native.Nat.{ℕ, zero, suc, _+_, _<_, _≤_}
+use lib.Dec.{eqb, leb}
+use lib.ListN.{length}
+use Rattle.meaning.specs.Words.{and, or, at, anyBelow, lowest}
 use Rattle.meaning.specs.Rows.{EdgeColumns, MutationColumns, edgesOf}
 use Rattle.meaning.specs.Forest.{ancestor}
 use Rattle.meaning.specs.Check.{mutationAbove, overtakes}
-use Rattle.ancestry.specs.Column.{no-row, code, parentRow, Rising}
+use Rattle.ancestry.specs.Column.{no-row, parentRow, Rising}
+use Rattle.ancestry.specs.Stamps.{stamped, StampedAbove}
 
 -- v is a proper ancestor, at site row s, of the node of one of the first i mutations at that site
 unfoldable pub over : EdgeColumns → List ℕ → List ℕ → List ℕ → ℕ → ℕ → ℕ → Bool
@@ -29,10 +30,19 @@ rule-10 E position M i = refl
 pub lowest-10 : (E : EdgeColumns) (position : List ℕ) (M : MutationColumns) (n : ℕ) → lowest (overtaken E position (M .site) (M .node)) n ≡ lowest (mutationAbove (edgesOf (λ r. r) E) position (λ r. r) M) n
 lowest-10 E position M n = ap (λ f. lowest f n) (fun-ext (rule-10 E position M))
 
--- mutation row i has another site than the row before
-unfoldable pub starts : List ℕ → ℕ → Bool
-starts site zero = true
-starts site (suc i) = not (eqb (at site i) (at site (suc i)))
+-- mutation row i is the last of its site
+unfoldable pub ends : List ℕ → ℕ → Bool
+ends site i = or (leb (length site) (suc i)) (not (eqb (at site i) (at site (suc i))))
+
+-- some site has two mutations
+unfoldable pub somePair : List ℕ → Bool
+unfolding ends anyBelow
+somePair site = anyBelow (λ i. not (ends site i)) (length site)
+
+-- the number of sites up to the last one of the first i mutations
+unfoldable pub passed : List ℕ → ℕ → ℕ
+passed site zero = 0
+passed site (suc i) = at site i + 1
 
 -- what 1 and 9 find of the mutations: the rows named exist, and the site rows do not fall
 pub record Lined (sites nodes : ℕ) (site node : List ℕ) : Type 0 where
@@ -41,16 +51,20 @@ pub record Lined (sites nodes : ℕ) (site node : List ℕ) : Type 0 where
   pub node-row : (i : ℕ) → i < length site → at node i < nodes
   pub rise : (i : ℕ) → suc i < length site → at site i ≤ at site (suc i)
 
--- what rule 10 asks of the tables, with working columns of so many cells
+-- what rule 10 asks of the tables; working columns have so many cells
 pub record Ordered (time : List ℕ) (E : EdgeColumns) (position site node : List ℕ) (cells : ℕ) : Type 0 where
   pub rising : Rising time E
   pub lined : Lined (length position) (length time) site node
   pub room : length time ≤ cells
   pub few : length time ≤ no-row
+  pub few-sites : length position ≤ no-row
 
--- parents and marks before and after mutation row i's site is taken up: anew where the row starts a site
-pub record TakenUp (E : EdgeColumns) (position site : List ℕ) (i : ℕ) (par marks par' marks' : List ℕ) : Type 0 where
-  pub parents-anew : starts site i ≡ true → par' ≡ rows (λ u. code (parentRow E (at position (at site i)) u)) (length par)
-  pub marks-anew : starts site i ≡ true → marks' ≡ replicate (length marks) 0
-  pub parents-kept : starts site i ≡ false → par' ≡ par
-  pub marks-kept : starts site i ≡ false → marks' ≡ marks
+-- stamps at site row s after the first i mutations: the stamp is the site's row and one, and it is on the rows above them
+pub record Ready (E : EdgeColumns) (position site node : List ℕ) (s i : ℕ) (stamps : List ℕ) : Type 0 where
+  pub low : (v : ℕ) → v < length stamps → at stamps v ≤ s + 1
+  pub cells : (v : ℕ) → v < length stamps → stamped (s + 1) stamps v ≡ over E position site node s i v
+  pub closed : StampedAbove (parentRow E (at position s)) (s + 1) stamps
+
+-- stamps after mutation row i: ready for the next row, where there is one
+pub record ReadyNext (E : EdgeColumns) (position site node : List ℕ) (i : ℕ) (stamps : List ℕ) : Type 0 where
+  pub next : suc i < length site → Ready E position site node (at site (suc i)) (suc i) stamps

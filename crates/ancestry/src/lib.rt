@@ -2,13 +2,17 @@
 ghost use mathlib.Core.Path.{_≡_};
 ghost use Prim.Native.Nat.{ℕ, _<_, _≤_};
 ghost use lib.ListN.{length, replicate};
-ghost use Rattle.meaning.specs.Words.{at, rows, lowest};
+ghost use Rattle.meaning.specs.Words.{rows, lowest};
 ghost use Rattle.meaning.specs.Rows.{EdgeColumns, MutationColumns, edgesOf};
 ghost use Rattle.meaning.specs.Answer.{limits};
 ghost use Rattle.meaning.specs.Check.{mutationAbove};
 ghost use Rattle.ancestry.specs.Column.{code, parOf, parentRow, Fitting, Rising};
 ghost use Rattle.ancestry.specs.Marks.{Markable, MarkedUp};
-ghost use Rattle.ancestry.specs.Overtaken.{starts, overtaken, Lined, Ordered, TakenUp};
+ghost use Rattle.ancestry.specs.Arrivals.{Single, Rightwards};
+ghost use Rattle.ancestry.specs.Overtaken.{Lined};
+
+mod arrivals;
+mod stamps;
 
 // A column with a parent row for each node row.
 pub struct ParentColumn {
@@ -72,82 +76,8 @@ pub fn mark_up(time: &[u32], par: &[u32], marks: &mut [u8], u: u32)
     mark_up(time, par, marks, p);
 }
 
-// Takes every mark off.
-fn clear_marks(marks: &mut [u8])
-    ensures { λ _. ⌜ now (marks .exit) ≡ replicate (length (now (marks .entry))) 0 ⌝ }
-{
-    let mut i = 0;
-    while i < marks.len() {
-        marks[i] = 0;
-        i += 1;
-    }
-}
-
-// Whether mutation row i has another site than the row before.
-fn starts_site(site: &[u32], i: usize) -> bool
-    requires { ⌜ i < length (now site) ⌝ }
-    ensures { λ r. ⌜ r ≡ starts (now (site .entry)) i ⌝ }
-{
-    if i == 0 {
-        return true;
-    }
-    site[i - 1] != site[i]
-}
-
-// Makes ready for mutation row i: at a new site the parents are filled and the marks taken off, once for the site.
-fn take_up(
-    left: &[u32],
-    right: &[u32],
-    parent: &[u32],
-    child: &[u32],
-    position: &[u32],
-    site: &[u32],
-    i: usize,
-    par: &mut [u32],
-    marks: &mut [u8],
-)
-    requires { ⌜ Fitting (record { left = now left; right = now right; parent = now parent; child = now child }) (length (now par)) × (i < length (now site)) × (at (now site) i < length (now position)) ⌝ }
-    ensures { λ _. ⌜ TakenUp (record { left = now (left .entry); right = now (right .entry); parent = now (parent .entry); child = now (child .entry) }) (now (position .entry)) (now (site .entry)) i (now (par .entry)) (now (marks .entry)) (now (par .exit)) (now (marks .exit)) ⌝ }
-{
-    if starts_site(site, i) {
-        let x = position[site[i] as usize];
-        parents_at(left, right, parent, child, x, par);
-        clear_marks(marks);
-    }
-}
-
-// The lowest mutation row that is above an earlier one of its site, or the number of rows; par and marks are working columns.
-// Each site's parents are filled once, and each node is marked once for a site.
-fn lowest_above(
-    time: &[u32],
-    left: &[u32],
-    right: &[u32],
-    parent: &[u32],
-    child: &[u32],
-    position: &[u32],
-    site: &[u32],
-    node: &[u32],
-    par: &mut [u32],
-    marks: &mut [u8],
-) -> usize
-    requires { ⌜ Ordered (now time) (record { left = now left; right = now right; parent = now parent; child = now child }) (now position) (now site) (now node) (length (now par)) × (length (now marks) ≡ length (now par)) ⌝ }
-    ensures { λ r. ⌜ r ≡ lowest (overtaken (record { left = now (left .entry); right = now (right .entry); parent = now (parent .entry); child = now (child .entry) }) (now (position .entry)) (now (site .entry)) (now (node .entry))) (length (now (site .entry))) ⌝ }
-{
-    let mut i = 0;
-    while i < site.len() {
-        take_up(left, right, parent, child, position, site, i, par, marks);
-        let u = node[i];
-        if marks[u as usize] == 1 {
-            return i;
-        }
-        mark_up(time, par, marks, u);
-        i += 1;
-    }
-    site.len()
-}
-
 // 01's rule 10 by rows: the lowest mutation row whose node is a proper ancestor, at its site's position, of the node of an earlier
-// mutation at that site, or the number of rows.
+// mutation at that site, or the number of rows. Without two mutations at one site there is nothing to look at.
 pub fn first_above(
     time: &[u32],
     left: &[u32],
@@ -159,12 +89,18 @@ pub fn first_above(
     node: &[u32],
     derived: &[u8],
 ) -> usize
-    requires { ⌜ (length (now time) ≤ limits .nodes) × Rising (now time) (record { left = now left; right = now right; parent = now parent; child = now child }) × Lined (length (now position)) (length (now time)) (now site) (now node) ⌝ }
+    requires { ⌜ (length (now time) ≤ limits .nodes) × (length (now left) ≤ limits .edges) × (length (now position) ≤ limits .sites) × Rising (now time) (record { left = now left; right = now right; parent = now parent; child = now child }) × Single (now left) (now right) (now child) × Rightwards (now position) × Lined (length (now position)) (length (now time)) (now site) (now node) ⌝ }
     ensures { λ r. ⌜ r ≡ lowest (mutationAbove (edgesOf (λ x. x) (record { left = now (left .entry); right = now (right .entry); parent = now (parent .entry); child = now (child .entry) })) (now (position .entry)) (λ x. x) (record { site = now (site .entry); node = now (node .entry); derived = now (derived .entry) })) (length (now (site .entry))) ⌝ }
 {
-    let mut par = [0u32; meaning::NodeTable::MOST];
-    let mut marks = [0u8; meaning::NodeTable::MOST];
-    lowest_above(
+    if !stamps::some_pair(site) {
+        return site.len();
+    }
+    let mut first = [0u32; meaning::SiteTable::MOST];
+    let mut next = [0u32; meaning::EdgeTable::MOST];
+    let mut cur = [0u32; meaning::NodeTable::MOST];
+    let mut marks = [0u32; meaning::NodeTable::MOST];
+    arrivals::file_edges(left, position, &mut first, &mut next);
+    stamps::lowest_above(
         time,
         left,
         right,
@@ -173,7 +109,9 @@ pub fn first_above(
         position,
         site,
         node,
-        &mut par,
+        &first,
+        &next,
+        &mut cur,
         &mut marks,
     )
 }

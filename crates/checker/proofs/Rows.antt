@@ -6,14 +6,15 @@ use Prim.Native.Nat.{ℕ, suc, _<_, _≤_}
 use native.Mathlib.Omega.{arith}
 use lib.Dec.{eqb, leb, ltb}
 use lib.ListN.{length}
-use borrow.Author.Tests.{eq-eqb, leb-false, ltb-true, ltb-false}
+use borrow.Author.Tests.{eq-eqb, leb-false, lt-ltb, ltb-true, ltb-false}
 use Rattle.meaning.specs.Words.{or, at}
 use Rattle.meaning.specs.Rows.{EdgeColumns, MutationColumns}
-use Rattle.meaning.specs.Check.{repeated, edgeBroken, falls, mutationBroken}
-use Rattle.laws.specs.Bools.{clash, or-no}
+use Rattle.meaning.specs.Check.{repeated, edgeBroken, share, edgeShared, notAbove, siteBroken, falls, mutationBroken}
+use Rattle.laws.specs.Bools.{clash, or-no, and-yes}
 use Rattle.laws.specs.Counting.{of-below}
 use Rattle.bridge.specs.Columns.{Apart}
 use Rattle.ancestry.specs.Column.{Rising}
+use Rattle.ancestry.specs.Arrivals.{Holding, Single, Rightwards}
 use Rattle.ancestry.specs.Overtaken.{Lined}
 use Rattle.rules.specs.Asked.{EvenEdges, NamedNodes}
 
@@ -94,3 +95,29 @@ apart l h i j a b e = go (ltb i j) refl (ltb j i) refl
     go true p u q = absurd (clash (of-below (λ k. eqb (at l k) (at l j)) j i (ltb-true i j p) (eq-eqb _ _ e)) (h j b))
     go false p true q = absurd (clash (of-below (λ k. eqb (at l k) (at l i)) i j (ltb-true j i q) (eq-eqb _ _ (sym e))) (h i a))
     go false p false q = omega (arith, ltb-false i j p, ltb-false j i q)
+
+-- rule 10: two edges of one child never hold at one position
+pub single : (E : EdgeColumns) → ((i : ℕ) → i < length (E .left) → edgeShared E i ≡ false) → Single (E .left) (E .right) (E .child)
+unfolding edgeShared share
+single E h = record { one = λ e f x a b q m n. go e f x a b q m n (ltb e f) refl (ltb f e) refl }
+  where
+    meet : (e f x : ℕ) → at (E .child) e ≡ at (E .child) f → Holding (E .left) (E .right) x e → Holding (E .left) (E .right) x f → share E e f ≡ true
+    meet e f x q m n = and-yes
+        (eq-eqb (at (E .child) e) (at (E .child) f) q)
+        (and-yes
+        (lt-ltb (at (E .left) e) (at (E .right) f) (omega (arith, m .begun, n .lasts)))
+        (lt-ltb (at (E .left) f) (at (E .right) e) (omega (arith, n .begun, m .lasts))))
+
+    go : (e f x : ℕ) → e < length (E .left) → f < length (E .left) → at (E .child) e ≡ at (E .child) f → Holding (E .left) (E .right) x e → Holding (E .left) (E .right) x f → (t : Bool) → ltb e f ≡ t → (u : Bool) → ltb f e ≡ u → e ≡ f
+    go e f x a b q m n true y u z = absurd (clash (of-below (λ j. share E j f) f e (ltb-true e f y) (meet e f x q m n)) (h f b))
+    go e f x a b q m n false y true z = absurd (clash (of-below (λ j. share E j e) e f (ltb-true f e z) (meet f e x (sym q) n m)) (h e a))
+    go e f x a b q m n false y false z = omega (arith, ltb-false e f y, ltb-false f e z)
+
+-- rule 10: the positions of the sites rise
+pub rightwards : (L : ℕ) (position : List ℕ) → ((i : ℕ) → i < length position → siteBroken L position i ≡ false) → Rightwards position
+unfolding siteBroken notAbove
+rightwards L position h = record {
+  rise = λ s l.
+      let r : _ = or-no (leb L (at position (suc s))) (leb (at position (suc s)) (at position s)) (h (suc s) l) in
+      omega (arith, leb-false (at position (suc s)) (at position s) (r .1));
+}

@@ -5,7 +5,7 @@ ghost use lib.ListN.{length};
 ghost use Rattle.meaning.specs.Answer.{done, limits, checkedOf};
 ghost use Rattle.meaning.specs.Check.{treeRules, siteRules, sampleRules};
 ghost use Rattle.rules.specs.Asked.{EvenEdges};
-ghost use Rattle.checker.specs.Found.{Shaped, TreeSound};
+ghost use Rattle.checker.specs.Found.{Shaped, Sized, TreeSound};
 ghost use Rattle.rules.specs.Lengths.{raggedTable, largeTable, refuseTable};
 use meaning::Checked;
 use meaning::Refusal;
@@ -96,7 +96,7 @@ pub fn sites_checked(
     node: &[u32],
     derived: &[u8],
 ) -> Checked
-    requires { ⌜ Shaped (record { nodes = record { time = now time; birth = now birth }; edges = record { left = now left; right = now right; parent = now parent; child = now child }; sites = record { position = now position; ancestral = now ancestral }; muts = record { site = now site; node = now node; derived = now derived } }) × (length (now time) ≤ limits .nodes) × TreeSound len (record { time = now time; birth = now birth }) (record { left = now left; right = now right; parent = now parent; child = now child }) ⌝ }
+    requires { ⌜ Shaped (record { nodes = record { time = now time; birth = now birth }; edges = record { left = now left; right = now right; parent = now parent; child = now child }; sites = record { position = now position; ancestral = now ancestral }; muts = record { site = now site; node = now node; derived = now derived } }) × Sized limits (record { nodes = record { time = now time; birth = now birth }; edges = record { left = now left; right = now right; parent = now parent; child = now child }; sites = record { position = now position; ancestral = now ancestral }; muts = record { site = now site; node = now node; derived = now derived } }) × TreeSound len (record { time = now time; birth = now birth }) (record { left = now left; right = now right; parent = now parent; child = now child }) ⌝ }
     ensures { λ r. ⌜ checkedOf r ≡ siteRules len (record { nodes = record { time = now (time .entry); birth = now (birth .entry) }; edges = record { left = now (left .entry); right = now (right .entry); parent = now (parent .entry); child = now (child .entry) }; sites = record { position = now (position .entry); ancestral = now (ancestral .entry) }; muts = record { site = now (site .entry); node = now (node .entry); derived = now (derived .entry) } }) done ⌝ }
 {
     let p = rules::columns::first_broken_site(len, position);

@@ -4,7 +4,7 @@ ghost use Prim.Native.Nat.{_≤_};
 ghost use lib.ListN.{length};
 ghost use Rattle.meaning.specs.Answer.{done, limits, checkedOf};
 ghost use Rattle.meaning.specs.Check.{rules, checkThen, check};
-ghost use Rattle.checker.specs.Found.{Shaped};
+ghost use Rattle.checker.specs.Found.{Shaped, Sized};
 
 mod groups;
 
@@ -27,7 +27,7 @@ fn rules_checked(
     node: &[u32],
     derived: &[u8],
 ) -> Checked
-    requires { ⌜ Shaped (record { nodes = record { time = now time; birth = now birth }; edges = record { left = now left; right = now right; parent = now parent; child = now child }; sites = record { position = now position; ancestral = now ancestral }; muts = record { site = now site; node = now node; derived = now derived } }) × (length (now time) ≤ limits .nodes) ⌝ }
+    requires { ⌜ Shaped (record { nodes = record { time = now time; birth = now birth }; edges = record { left = now left; right = now right; parent = now parent; child = now child }; sites = record { position = now position; ancestral = now ancestral }; muts = record { site = now site; node = now node; derived = now derived } }) × Sized limits (record { nodes = record { time = now time; birth = now birth }; edges = record { left = now left; right = now right; parent = now parent; child = now child }; sites = record { position = now position; ancestral = now ancestral }; muts = record { site = now site; node = now node; derived = now derived } }) ⌝ }
     ensures { λ r. ⌜ checkedOf r ≡ rules len (record { nodes = record { time = now (time .entry); birth = now (birth .entry) }; edges = record { left = now (left .entry); right = now (right .entry); parent = now (parent .entry); child = now (child .entry) }; sites = record { position = now (position .entry); ancestral = now (ancestral .entry) }; muts = record { site = now (site .entry); node = now (node .entry); derived = now (derived .entry) } }) done ⌝ }
 {
     if rules::lengths::length_broken(len) {

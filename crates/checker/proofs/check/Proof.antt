@@ -20,7 +20,7 @@ returns-2 : tie.Need-returns-2
 returns-2 c = samples-many _ _ _ _ _ (c .before .before .before .lengths-checked .ensures) (c .before .enum-told2 .given .1) (c .if1 .taken)
 
 rules-checked-requires : tie.Need-rules-checked-requires
-rules-checked-requires c κs = let f : _ = lengths-found _ _ _ (c .before .before .before .lengths-checked .ensures) (c .before .enum-told2 .given .1) in (f .0, f .1 .nodes)
+rules-checked-requires c κs = let f : _ = lengths-found _ _ _ (c .before .before .before .lengths-checked .ensures) (c .before .enum-told2 .given .1) in (f .0, f .1)
 
 enum-told-3 : tie.Need-enum-told-3
 enum-told-3 c = search needs

@@ -14,7 +14,7 @@ enum-told-2 : tie.Need-enum-told-2
 enum-told-2 c = search needs
 
 rules-checked-requires : tie.Need-rules-checked-requires
-rules-checked-requires c κs = let f : _ = lengths-found _ _ _ (c .before .before .lengths-checked .ensures) (c .enum-told2 .given .1) in (f .0, f .1 .nodes)
+rules-checked-requires c κs = let f : _ = lengths-found _ _ _ (c .before .before .lengths-checked .ensures) (c .enum-told2 .given .1) in (f .0, f .1)
 
 returns : tie.Need-returns
 returns c = table-refused _ _ _ _ (c .before .before .lengths-checked .ensures) _ (c .enum-told .given .1)
