@@ -1,11 +1,9 @@
-use native.Mathlib.Omega.{arith}
+-- `join_run::call::with_edges` is safe: the lent part of each column of the edges lies within it. Assumes nothing.
+use mathlib.Core.Path.{sym}
+use lib.Seq.{length-take-le}
 use borrow.Author.Needs.{needs}
 use Rattle.join_run.proofs.call.with_edges.Statement.{statement}
 use Rattle.join_run.proofs.call.with_edges.Tie as tie
-use Rattle.join_run.proofs.call.with_edges.Reads as reads
-use Rattle.join_run.proofs.call.with_edges.Lts as lts
-use Rattle.cases.proofs.fit.Reads as fit-reads
-use Rattle.join_run.proofs.call.with_sites.Reads as with-sites-reads
 
 add-fit : tie.Need-add-fit
 add-fit c = search needs
@@ -35,25 +33,25 @@ slice-relend-prefix-with-sites : tie.Need-slice-relend-prefix-with-sites
 slice-relend-prefix-with-sites c = search needs
 
 slice-aggregate-with-sites : tie.Need-slice-aggregate-with-sites
-slice-aggregate-with-sites c = search needs
+slice-aggregate-with-sites c = sym (length-take-le (c .before .before .before .before .before .before .fit .result) (c .before .before .before .before .before .before .before .before .before .before .before .before .before .before .before .before .before .before .before .before .args .out-left .now) (c .before .before .before .before .before .before .fit .ensures))
 
 slice-relend-prefix-with-sites-2 : tie.Need-slice-relend-prefix-with-sites-2
 slice-relend-prefix-with-sites-2 c = search needs
 
 slice-aggregate-with-sites-2 : tie.Need-slice-aggregate-with-sites-2
-slice-aggregate-with-sites-2 c = search needs
+slice-aggregate-with-sites-2 c = sym (length-take-le (c .before .before .before .before .before .before .fit2 .result) (c .before .before .before .before .before .before .before .before .before .before .before .before .before .before .before .before .before .before .before .before .before .args .out-right .now) (c .before .before .before .before .before .before .fit2 .ensures))
 
 slice-relend-prefix-with-sites-3 : tie.Need-slice-relend-prefix-with-sites-3
 slice-relend-prefix-with-sites-3 c = search needs
 
 slice-aggregate-with-sites-3 : tie.Need-slice-aggregate-with-sites-3
-slice-aggregate-with-sites-3 c = search needs
+slice-aggregate-with-sites-3 c = sym (length-take-le (c .before .before .before .before .before .before .fit3 .result) (c .before .before .before .before .before .before .before .before .before .before .before .before .before .before .before .before .before .before .before .before .before .before .args .out-parent .now) (c .before .before .before .before .before .before .fit3 .ensures))
 
 slice-relend-prefix-with-sites-4 : tie.Need-slice-relend-prefix-with-sites-4
 slice-relend-prefix-with-sites-4 c = search needs
 
 slice-aggregate-with-sites-4 : tie.Need-slice-aggregate-with-sites-4
-slice-aggregate-with-sites-4 c = search needs
+slice-aggregate-with-sites-4 c = sym (length-take-le (c .before .before .before .before .before .before .fit4 .result) (c .before .before .before .before .before .before .before .before .before .before .before .before .before .before .before .before .before .before .before .before .before .before .before .args .out-child .now) (c .before .before .before .before .before .before .fit4 .ensures))
 
 with-sites-requires : tie.Need-with-sites-requires
 with-sites-requires c κs = search needs

@@ -1,11 +1,9 @@
-use native.Mathlib.Omega.{arith}
+-- `join_run::call::with_mutations` is safe: the lent part of each column of the mutations lies within it. Assumes nothing.
+use mathlib.Core.Path.{sym}
+use lib.Seq.{length-take-le}
 use borrow.Author.Needs.{needs}
 use Rattle.join_run.proofs.call.with_mutations.Statement.{statement}
 use Rattle.join_run.proofs.call.with_mutations.Tie as tie
-use Rattle.join_run.proofs.call.with_mutations.Reads as reads
-use Rattle.join_run.proofs.call.with_mutations.Lts as lts
-use Rattle.cases.proofs.fit.Reads as fit-reads
-use Rattle.join_run.proofs.call.join_columns.Reads as join-columns-reads
 
 add-fit : tie.Need-add-fit
 add-fit c = search needs
@@ -29,19 +27,19 @@ slice-relend-prefix-join-columns : tie.Need-slice-relend-prefix-join-columns
 slice-relend-prefix-join-columns c = search needs
 
 slice-aggregate-join-columns : tie.Need-slice-aggregate-join-columns
-slice-aggregate-join-columns c = search needs
+slice-aggregate-join-columns c = sym (length-take-le (c .before .before .before .before .before .before .before .before .before .before .before .fit .result) (c .before .before .before .before .before .before .before .before .before .before .before .before .before .before .before .before .before .before .before .before .before .before .before .before .before .args .out-site .now) (c .before .before .before .before .before .before .before .before .before .before .before .fit .ensures))
 
 slice-relend-prefix-join-columns-2 : tie.Need-slice-relend-prefix-join-columns-2
 slice-relend-prefix-join-columns-2 c = search needs
 
 slice-aggregate-join-columns-2 : tie.Need-slice-aggregate-join-columns-2
-slice-aggregate-join-columns-2 c = search needs
+slice-aggregate-join-columns-2 c = sym (length-take-le (c .before .before .before .before .before .before .before .before .before .before .before .fit2 .result) (c .before .before .before .before .before .before .before .before .before .before .before .before .before .before .before .before .before .before .before .before .before .before .before .before .before .before .args .out-node .now) (c .before .before .before .before .before .before .before .before .before .before .before .fit2 .ensures))
 
 slice-relend-prefix-join-columns-3 : tie.Need-slice-relend-prefix-join-columns-3
 slice-relend-prefix-join-columns-3 c = search needs
 
 slice-aggregate-join-columns-3 : tie.Need-slice-aggregate-join-columns-3
-slice-aggregate-join-columns-3 c = search needs
+slice-aggregate-join-columns-3 c = sym (length-take-le (c .before .before .before .before .before .before .before .before .before .before .before .fit3 .result) (c .before .before .before .before .before .before .before .before .before .before .before .before .before .before .before .before .before .before .before .before .before .before .before .before .before .before .before .args .out-derived .now) (c .before .before .before .before .before .before .before .before .before .before .before .fit3 .ensures))
 
 join-columns-requires : tie.Need-join-columns-requires
 join-columns-requires c κs = search needs

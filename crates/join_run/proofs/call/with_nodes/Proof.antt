@@ -1,11 +1,9 @@
-use native.Mathlib.Omega.{arith}
+-- `join_run::call::with_nodes` is safe: the lent part of each column of the nodes lies within it. Assumes nothing.
+use mathlib.Core.Path.{sym}
+use lib.Seq.{length-take-le}
 use borrow.Author.Needs.{needs}
 use Rattle.join_run.proofs.call.with_nodes.Statement.{statement}
 use Rattle.join_run.proofs.call.with_nodes.Tie as tie
-use Rattle.join_run.proofs.call.with_nodes.Reads as reads
-use Rattle.join_run.proofs.call.with_nodes.Lts as lts
-use Rattle.cases.proofs.fit.Reads as fit-reads
-use Rattle.join_run.proofs.call.with_edges.Reads as with-edges-reads
 
 add-fit : tie.Need-add-fit
 add-fit c = search needs
@@ -23,13 +21,13 @@ slice-relend-prefix-with-edges : tie.Need-slice-relend-prefix-with-edges
 slice-relend-prefix-with-edges c = search needs
 
 slice-aggregate-with-edges : tie.Need-slice-aggregate-with-edges
-slice-aggregate-with-edges c = search needs
+slice-aggregate-with-edges c = sym (length-take-le (c .before .before .fit .result) (c .before .before .before .before .before .before .before .before .before .before .before .before .before .before .before .before .args .out-time .now) (c .before .before .fit .ensures))
 
 slice-relend-prefix-with-edges-2 : tie.Need-slice-relend-prefix-with-edges-2
 slice-relend-prefix-with-edges-2 c = search needs
 
 slice-aggregate-with-edges-2 : tie.Need-slice-aggregate-with-edges-2
-slice-aggregate-with-edges-2 c = search needs
+slice-aggregate-with-edges-2 c = sym (length-take-le (c .before .before .fit2 .result) (c .before .before .before .before .before .before .before .before .before .before .before .before .before .before .before .before .before .args .out-birth .now) (c .before .before .fit2 .ensures))
 
 with-edges-requires : tie.Need-with-edges-requires
 with-edges-requires c κs = search needs

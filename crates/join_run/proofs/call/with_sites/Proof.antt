@@ -1,11 +1,9 @@
-use native.Mathlib.Omega.{arith}
+-- `join_run::call::with_sites` is safe: the lent part of each column of the sites lies within it. Assumes nothing.
+use mathlib.Core.Path.{sym}
+use lib.Seq.{length-take-le}
 use borrow.Author.Needs.{needs}
 use Rattle.join_run.proofs.call.with_sites.Statement.{statement}
 use Rattle.join_run.proofs.call.with_sites.Tie as tie
-use Rattle.join_run.proofs.call.with_sites.Reads as reads
-use Rattle.join_run.proofs.call.with_sites.Lts as lts
-use Rattle.cases.proofs.fit.Reads as fit-reads
-use Rattle.join_run.proofs.call.with_mutations.Reads as with-mutations-reads
 
 add-fit : tie.Need-add-fit
 add-fit c = search needs
@@ -23,13 +21,13 @@ slice-relend-prefix-with-mutations : tie.Need-slice-relend-prefix-with-mutations
 slice-relend-prefix-with-mutations c = search needs
 
 slice-aggregate-with-mutations : tie.Need-slice-aggregate-with-mutations
-slice-aggregate-with-mutations c = search needs
+slice-aggregate-with-mutations c = sym (length-take-le (c .before .before .before .before .before .before .before .before .fit .result) (c .before .before .before .before .before .before .before .before .before .before .before .before .before .before .before .before .before .before .before .before .before .before .args .out-position .now) (c .before .before .before .before .before .before .before .before .fit .ensures))
 
 slice-relend-prefix-with-mutations-2 : tie.Need-slice-relend-prefix-with-mutations-2
 slice-relend-prefix-with-mutations-2 c = search needs
 
 slice-aggregate-with-mutations-2 : tie.Need-slice-aggregate-with-mutations-2
-slice-aggregate-with-mutations-2 c = search needs
+slice-aggregate-with-mutations-2 c = sym (length-take-le (c .before .before .before .before .before .before .before .before .fit2 .result) (c .before .before .before .before .before .before .before .before .before .before .before .before .before .before .before .before .before .before .before .before .before .before .before .args .out-ancestral .now) (c .before .before .before .before .before .before .before .before .fit2 .ensures))
 
 with-mutations-requires : tie.Need-with-mutations-requires
 with-mutations-requires c κs = search needs
