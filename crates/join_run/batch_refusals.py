@@ -1,18 +1,11 @@
 """Each refusal of a join, alone at the lowest row that can have it and at the last row of a full batch, and behind an earlier one."""
-from histories import copied, tables
 from joining import BATCH
+from frames import base_of, batch_of
+from histories import copied
 from second import LONGEST, NONE
 
 LENGTH = 24
 SITES = [(x, x) for x in range(0, 24, 4)]
-
-
-def base_of(nodes, edges=(), sites=(), mutations=()):
-    return tables(nodes, edges, sites, mutations)[:11]
-
-
-def batch_of(nodes, edges=(), mutations=()):
-    return [[r[k] for r in rows] for rows, width in ((nodes, 2), (edges, 4), (mutations, 3)) for k in range(width)]
 
 
 def changed(columns, *edits):

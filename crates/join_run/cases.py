@@ -10,41 +10,15 @@ columns; start and length of the eleven columns of the base, of the nine of the 
 """
 import itertools
 import random
-import struct
 import sys
 
 sys.dont_write_bytecode = True
 from joining import answer, join
-from histories import copied, damaged, small, tables
+from frames import base_of, batch_of, ended, framed, placed
+from histories import copied, damaged, small
 from second import LONGEST, NONE, TABLES
 
 ROOM = [1024] * 2 + [4096] * 4 + [512] * 2 + [1024] * 3
-
-
-def packed(v):
-    if v < 254:
-        return bytes([v])
-    return b'\xfe' + struct.pack('<H', v) if v < 65536 else b'\xff' + struct.pack('<I', v)
-
-
-def framed(states, numbers, kind=1):
-    """The bytes of a case."""
-    body = states + b''.join(map(packed, numbers))
-    assert len(numbers) <= 65536 and len(body) <= 262144
-    return struct.pack('<4I', kind, len(body), len(states), len(numbers)) + body
-
-
-def placed(columns, bytes_at, start, states, cells):
-    """Start and length of each column; those of states go to states, the others to cells, which stand from start on."""
-    places = []
-    for k, column in enumerate(columns):
-        if k in bytes_at:
-            places += [len(states), len(column)]
-            states += bytes(column)
-        else:
-            places += [start + len(cells), len(column)]
-            cells += column
-    return places
 
 
 def case(length, base, batch, lent=None, due=None):
@@ -58,15 +32,6 @@ def case(length, base, batch, lent=None, due=None):
     places += placed(batch, (8,), 80, states, cells)
     places += placed(out, (), 80, states, cells)
     return framed(bytes(states), [length, number, row] + counts + lent + places + cells)
-
-
-def batch_of(nodes, edges=(), mutations=()):
-    """The nine columns of a batch, rows as they come."""
-    return [[r[k] for r in rows] for rows, width in ((nodes, 2), (edges, 4), (mutations, 3)) for k in range(width)]
-
-
-def base_of(nodes, edges=(), sites=(), mutations=()):
-    return tables(nodes, edges, sites, mutations)[:11]
 
 
 # 01's listing as a record, and two births under its fish
@@ -239,11 +204,6 @@ def damaged_cases(rng, n):
         if i % 3 != 0 or i % 2 == 0:
             batch = damaged_batch(rng, length, base, batch)
         yield case(length, base, batch, any_room(rng, [len(c) for c in answer(length, base, batch, ROOM)[3]]))
-
-
-def ended(name, cases):
-    """The bytes of a group and its end."""
-    return b''.join(cases) + struct.pack('<4I', 0, len(name), 0, 0) + name.encode()
 
 
 def main():

@@ -1,4 +1,5 @@
 // A history run twice: with every cleaning, and with only the last.
+ghost use Prim.Native.Nat.{_≤_};
 use crate::record;
 use crate::same;
 use crate::steps;
@@ -26,7 +27,9 @@ pub enum End {
 }
 
 // Where a step stands.
-fn place(k: usize) -> usize {
+fn place(k: usize) -> usize
+    ensures { λ r. ⌜ r ≤ 300000 ⌝ }
+{
     if 10000 < k {
         return 0;
     }
@@ -38,22 +41,15 @@ fn step(w: &[u32], bytes: &[u8], k: usize, all: bool, rec: &mut [u32], states: &
     let at = place(k);
     let kind = cases::get(w, at);
     if kind == JOIN {
-        return steps::join(w, bytes, place_of(k), rec, states);
+        return steps::join(w, bytes, at + 1, rec, states);
     }
     if skipped(kind, all) {
         return true;
     }
-    steps::clean(w, place_of(k), rec, states)
+    steps::clean(w, at + 1, rec, states)
 }
 
-// Where a step's pairs start.
-fn place_of(k: usize) -> usize {
-    if 10000 < k {
-        return 0;
-    }
-    STEPS + 1 + 20 * k
-}
-
+// Whether a step is left out.
 fn skipped(kind: u32, all: bool) -> bool {
     if all {
         return false;

@@ -27,7 +27,8 @@ pub fn front_bytes(s: &[u8], n: usize) -> &[u8] {
     if n <= s.len() { &s[..n] } else { s }
 }
 
-fn byte(s: &[u8], i: usize) -> u8 {
+// A byte, 0 past the end.
+pub fn byte(s: &[u8], i: usize) -> u8 {
     if i < s.len() {
         return s[i];
     }

@@ -1,4 +1,6 @@
 // Whether two records have the same rows in four tables.
+use crate::record;
+
 fn same_words(a: &[u32], b: &[u32]) -> bool {
     if a.len() != b.len() {
         return false;
@@ -13,20 +15,13 @@ fn same_words(a: &[u32], b: &[u32]) -> bool {
     true
 }
 
-fn byte(s: &[u8], i: usize) -> u8 {
-    if i < s.len() {
-        return s[i];
-    }
-    0
-}
-
 fn same_bytes(a: &[u8], b: &[u8]) -> bool {
     if a.len() != b.len() {
         return false;
     }
     let mut i = 0;
     while i < a.len() {
-        if a[i] != byte(b, i) {
+        if a[i] != record::byte(b, i) {
             return false;
         }
         i += 1;
