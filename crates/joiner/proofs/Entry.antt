@@ -1,9 +1,8 @@
 -- The call: the checks' refusal, 13 with nothing written, or the result.
 use mathlib.Core.Path.{_≡_, refl, sym, ap, _∙_}
 use mathlib.Core.Bool.{Bool, true, false}
-use mathlib.Core.List.{List, [], _∷_}
+use mathlib.Core.List.{[]}
 use Prim.Native.Nat.{ℕ, zero, suc, _+_, _<_, _≤_}
-use native.Mathlib.Omega.{arith}
 use lib.Dec.{eqb, ltb}
 use lib.ListN.{length}
 use borrow.Author.Tests.{lt-ltb, le-ltb}
@@ -13,11 +12,11 @@ use Rattle.meaning.specs.declared.Checked.the-variants as checked
 use Rattle.meaning.specs.Words.{lowest}
 use Rattle.meaning.specs.Rows.{Tables}
 use Rattle.meaning.specs.Answer.{Answer, answer, done, limits, refuse, refuseRow, accepted, refusalOf, checkedOf}
-use Rattle.meaning.specs.Lent.{Counts, fitThen, countsBy, cellsBy}
+use Rattle.meaning.specs.Lent.{fitThen, countsBy, cellsBy}
 use Rattle.meaning.specs.Check.{checkThen}
 use Rattle.meaning.specs.Join.{BatchTables, JoinOutcome, joined, batchShapes, batchSizes, batchRules}
 use Rattle.meaning.specs.Called.{blockThen, joiningTo}
-use Rattle.accepted.specs.Refusals.{Accepted, of-done}
+use Rattle.accepted.specs.Refusals.{of-done}
 use Rattle.accepted.specs.Rooms.{Fits, fits-of}
 use Rattle.accepted.specs.Checked.{sound-of}
 use Rattle.accepted.specs.Batches.{batch-sound-of}

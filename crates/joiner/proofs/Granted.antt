@@ -1,12 +1,11 @@
 -- What may be joined has what the writing of edges and mutations asks, where the lent columns have room.
 use mathlib.Core.Path.{_≡_}
-use mathlib.Core.List.{List, [], _∷_}
-use Prim.Native.Nat.{ℕ, _+_, _<_, _≤_}
+use mathlib.Core.List.{[]}
+use Prim.Native.Nat.{ℕ, _+_, _<_}
 use native.Mathlib.Omega.{arith}
 use lib.ListN.{length}
 use Rattle.meaning.specs.Words.{at}
 use Rattle.meaning.specs.Rows.{Tables, EdgeColumns, MutationColumns}
-use Rattle.meaning.specs.Answer.{limits}
 use Rattle.meaning.specs.Join.{BatchTables}
 use Rattle.accepted.specs.Tests.{Holds, of-not-shared}
 use Rattle.accepted.specs.Columns.{same-row}

@@ -11,7 +11,6 @@ use Rattle.meaning.specs.Answer.{done, limits, accepted, put, left-by}
 use Rattle.meaning.specs.Lent.{cellsBy}
 use Rattle.meaning.specs.Join.{BatchTables, batchOf, join, joined}
 use Rattle.laws.specs.Counting.{length-rows, rows-at, map-rows}
-use Rattle.order.specs.Order.{byKeys}
 use Rattle.order.specs.Counts.{bit, count-nil, count-cons}
 use Rattle.order.specs.Laws.{count-sort}
 use Rattle.history.specs.Nodes.{births-join}
@@ -22,8 +21,8 @@ use Rattle.batches.specs.Joint.{jointEdges, jointMutations, allBirths, allTimes
 use Rattle.batches.specs.Asked.{readBase, readBatch}
 use Rattle.batches.proofs.Together.{joint-rows}
 use Rattle.joiner.specs.Asked.{EdgesAsked}
-use Rattle.joiner.specs.Sorting.{edgeOrder, edgesIn, EdgeRoom}
-use Rattle.joiner.specs.Mutations.{siteOrder, mutationsBySite, MutationRoom, MutationsPut, MutationsAsked}
+use Rattle.joiner.specs.Sorting.{edgeOrder}
+use Rattle.joiner.specs.Mutations.{siteOrder, mutationsBySite, MutationsPut, MutationsAsked}
 use Rattle.joiner.specs.Joinable.{Joinable}
 use Rattle.joiner.proofs.Ordered.{joined-edges}
 use Rattle.joiner.proofs.BySite.{joined-mutations}

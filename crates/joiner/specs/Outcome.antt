@@ -1,6 +1,6 @@
 -- What the code's answer and the lent columns say, as an outcome, and the outcome of an answer.
-use mathlib.Core.Path.{_≡_, refl, ap}
-use mathlib.Core.Bool.{Bool, true, false}
+use mathlib.Core.Path.{_≡_, ap}
+use mathlib.Core.Bool.{false}
 use Prim.Native.Nat.{ℕ}
 use Rattle.meaning.specs.Rows.{Tables}
 use Rattle.meaning.specs.Answer.{Answer, done, limits, accepted, left-by, refusalOf}
