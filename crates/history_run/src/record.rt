@@ -19,11 +19,11 @@ fn most(n: usize) -> usize
 }
 
 // The first cells, and the first bytes.
-pub fn front(s: &[u32], n: usize) -> &[u32] {
+fn front(s: &[u32], n: usize) -> &[u32] {
     if n <= s.len() { &s[..n] } else { s }
 }
 
-pub fn front_bytes(s: &[u8], n: usize) -> &[u8] {
+fn front_bytes(s: &[u8], n: usize) -> &[u8] {
     if n <= s.len() { &s[..n] } else { s }
 }
 
@@ -131,4 +131,41 @@ pub fn keep(
     put_edges(rec, left, right, parent, child);
     put_sites(rec, bytes, position, ancestral);
     put_mutations(rec, bytes, site, node, derived);
+}
+
+// Puts the first rows of four tables into a record.
+pub fn keep_rows(
+    rec: &mut [u32],
+    bytes: &mut [u8],
+    nodes: usize,
+    edges: usize,
+    sites: usize,
+    mutations: usize,
+    time: &[u32],
+    birth: &[u32],
+    left: &[u32],
+    right: &[u32],
+    parent: &[u32],
+    child: &[u32],
+    position: &[u32],
+    ancestral: &[u8],
+    site: &[u32],
+    node: &[u32],
+    derived: &[u8],
+) {
+    keep(
+        rec,
+        bytes,
+        front(time, nodes),
+        front(birth, nodes),
+        front(left, edges),
+        front(right, edges),
+        front(parent, edges),
+        front(child, edges),
+        front(position, sites),
+        front_bytes(ancestral, sites),
+        front(site, mutations),
+        front(node, mutations),
+        front_bytes(derived, mutations),
+    );
 }

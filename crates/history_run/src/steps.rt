@@ -203,20 +203,24 @@ pub fn join(w: &[u32], bytes: &[u8], at: usize, rec: &mut [u32], states: &mut [u
     if !seen.done {
         return false;
     }
-    record::keep(
+    record::keep_rows(
         rec,
         states,
-        record::front(&time, seen.nodes),
-        record::front(&birth, seen.nodes),
-        record::front(&left, seen.edges),
-        record::front(&right, seen.edges),
-        record::front(&parent, seen.edges),
-        record::front(&child, seen.edges),
-        record::front(&position, seen.sites),
-        record::front_bytes(&ancestral, seen.sites),
-        record::front(&site, seen.mutations),
-        record::front(&node, seen.mutations),
-        record::front_bytes(&derived, seen.mutations),
+        seen.nodes,
+        seen.edges,
+        seen.sites,
+        seen.mutations,
+        &time,
+        &birth,
+        &left,
+        &right,
+        &parent,
+        &child,
+        &position,
+        &ancestral,
+        &site,
+        &node,
+        &derived,
     );
     true
 }
@@ -256,20 +260,24 @@ pub fn clean(w: &[u32], at: usize, rec: &mut [u32], states: &mut [u8]) -> bool {
     if !seen.done {
         return false;
     }
-    record::keep(
+    record::keep_rows(
         rec,
         states,
-        record::front(&time, seen.nodes),
-        record::front(&birth, seen.nodes),
-        record::front(&left, seen.edges),
-        record::front(&right, seen.edges),
-        record::front(&parent, seen.edges),
-        record::front(&child, seen.edges),
-        record::front(&position, seen.sites),
-        record::front_bytes(&ancestral, seen.sites),
-        record::front(&site, seen.mutations),
-        record::front(&node, seen.mutations),
-        record::front_bytes(&derived, seen.mutations),
+        seen.nodes,
+        seen.edges,
+        seen.sites,
+        seen.mutations,
+        &time,
+        &birth,
+        &left,
+        &right,
+        &parent,
+        &child,
+        &position,
+        &ancestral,
+        &site,
+        &node,
+        &derived,
     );
     true
 }
