@@ -8,7 +8,9 @@ A history is a case as in join_run; its numbers: L; how many steps; start and le
 the eleven due; for each step twenty cells, its kind (1 join, 2 clean, 3 the last cleaning) and start and length of its columns (nine of
 a batch, one of a list); then the columns. The program runs it twice, with every cleaning and with only the last.
 
-SEEN
+It must be able to fail, and does: in the second group every cleaning leaves out one fish that is named later, so demand 3's premise is
+broken. Of these 40 histories 18 ended in a join refused with 23 (the parent was no longer in the record), 2 in a last cleaning refused
+with 11, and in 20 no call was refused and the two ends differ. Histories that come out right in spite of it are passed over.
 """
 import os
 import random

@@ -1,12 +1,12 @@
 // Runs the histories of standard input, which cases.py made, each with every cleaning and with only the last, and says for each group
 // how many there were, in how many a call was refused, in how many the two ends differ, and how many end otherwise than is due.
-mod history;
 mod record;
 mod same;
 mod steps;
+mod twice;
 
-use history::End;
 use libc::STDOUT_FILENO;
+use twice::End;
 
 // The most bytes of a history, and the most numbers.
 const BYTES: usize = 65536;
@@ -24,7 +24,7 @@ enum Turn {
 fn judge(bytes: &[u8], from: usize, n: usize) -> End {
     let mut w = [0u32; CELLS];
     cases::decode(bytes, from, n, &mut w);
-    history::judge(&w, bytes)
+    twice::judge(&w, bytes)
 }
 
 // One history; kind 0 ends a group and holds its name.

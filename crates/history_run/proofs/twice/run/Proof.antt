@@ -1,10 +1,10 @@
--- `history_run::history::run` is safe and ends: n steps, and the record keeps its room. Assumes nothing.
+-- `history_run::twice::run` is safe and ends: n steps, and the record keeps its room. Assumes nothing.
 use mathlib.Core.Path.{_≡_}
 use Prim.Native.Nat.{_≤_, _-_}
 use lib.ListN.{length}
 use borrow.Author.Needs.{needs}
-use Rattle.history_run.proofs.history.run.Statement.{statement}
-use Rattle.history_run.proofs.history.run.Tie as tie
+use Rattle.history_run.proofs.twice.run.Statement.{statement}
+use Rattle.history_run.proofs.twice.run.Tie as tie
 
 abbrev Inv-loop : tie.InvT-loop
 Inv-loop w bytes all rec₀ states₀ n k₀ rec states k = (k ≤ n) × (length rec ≡ length rec₀) × (length states ≡ length states₀)
