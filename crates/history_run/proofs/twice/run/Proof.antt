@@ -18,6 +18,9 @@ begin-requires c κs = search needs
 get-requires : tie.Need-get-requires Inv-loop μ-loop
 get-requires c κs = search needs
 
+cast-n : tie.Need-cast-n Inv-loop μ-loop
+cast-n c = search needs
+
 loop-holds : tie.Need-loop-holds Inv-loop μ-loop
 loop-holds c = search needs
 
@@ -59,6 +62,7 @@ run-spec =
     μ-loop
     begin-requires
     get-requires
+    cast-n
     loop-holds
     step-requires
     same-length
