@@ -1,0 +1,95 @@
+-- `join_run::call::with_sites` is safe: the lent part of each column of the sites lies within it. Assumes nothing.
+use mathlib.Core.Path.{sym}
+use lib.Seq.{length-take-le}
+use borrow.Author.Needs.{needs}
+use Rattle.join_run.proofs.call.with_sites.Statement.{statement}
+use Rattle.join_run.proofs.call.with_sites.Tie as tie
+
+add-fit : tie.Need-add-fit
+add-fit c = search needs
+
+fit-requires : tie.Need-fit-requires
+fit-requires c κs = search needs
+
+add-fit-2 : tie.Need-add-fit-2
+add-fit-2 c = search needs
+
+fit-requires-2 : tie.Need-fit-requires-2
+fit-requires-2 c κs = search needs
+
+slice-relend-prefix-with-mutations : tie.Need-slice-relend-prefix-with-mutations
+slice-relend-prefix-with-mutations c = search needs
+
+slice-aggregate-with-mutations : tie.Need-slice-aggregate-with-mutations
+slice-aggregate-with-mutations c = sym (length-take-le (c .before .before .before .before .before .before .before .before .fit .result) (c .before .before .before .before .before .before .before .before .before .before .before .before .before .before .before .before .before .before .before .before .before .before .args .out-position .now) (c .before .before .before .before .before .before .before .before .fit .ensures))
+
+slice-relend-prefix-with-mutations-2 : tie.Need-slice-relend-prefix-with-mutations-2
+slice-relend-prefix-with-mutations-2 c = search needs
+
+slice-aggregate-with-mutations-2 : tie.Need-slice-aggregate-with-mutations-2
+slice-aggregate-with-mutations-2 c = sym (length-take-le (c .before .before .before .before .before .before .before .before .fit2 .result) (c .before .before .before .before .before .before .before .before .before .before .before .before .before .before .before .before .before .before .before .before .before .before .before .args .out-ancestral .now) (c .before .before .before .before .before .before .before .before .fit2 .ensures))
+
+with-mutations-requires : tie.Need-with-mutations-requires
+with-mutations-requires c κs = search needs
+
+same-length : tie.Need-same-length
+same-length c = search needs
+
+same-length-2 : tie.Need-same-length-2
+same-length-2 c = search needs
+
+same-length-3 : tie.Need-same-length-3
+same-length-3 c = search needs
+
+same-length-4 : tie.Need-same-length-4
+same-length-4 c = search needs
+
+same-length-5 : tie.Need-same-length-5
+same-length-5 c = search needs
+
+same-length-6 : tie.Need-same-length-6
+same-length-6 c = search needs
+
+same-length-7 : tie.Need-same-length-7
+same-length-7 c = search needs
+
+same-length-8 : tie.Need-same-length-8
+same-length-8 c = search needs
+
+same-length-9 : tie.Need-same-length-9
+same-length-9 c = search needs
+
+same-length-10 : tie.Need-same-length-10
+same-length-10 c = search needs
+
+same-length-11 : tie.Need-same-length-11
+same-length-11 c = search needs
+
+returns : tie.Need-returns
+returns c = search needs
+
+pub with-sites-spec : {M : Type 1} → statement M
+with-sites-spec =
+    tie.close
+    (tie.spec
+    add-fit
+    fit-requires
+    add-fit-2
+    fit-requires-2
+    slice-relend-prefix-with-mutations
+    slice-aggregate-with-mutations
+    slice-relend-prefix-with-mutations-2
+    slice-aggregate-with-mutations-2
+    with-mutations-requires
+    same-length
+    same-length-2
+    same-length-3
+    same-length-4
+    same-length-5
+    same-length-6
+    same-length-7
+    same-length-8
+    same-length-9
+    same-length-10
+    same-length-11
+    returns)

@@ -1,0 +1,105 @@
+// The lent columns of a case, held to those due.
+use crate::answer;
+use crate::call;
+
+// Cells of lent columns: two more than the limit, so that a room of one more still has a cell past it.
+const NODES: usize = meaning::NodeTable::MOST + 2;
+
+const EDGES: usize = meaning::EdgeTable::MOST + 2;
+
+const SITES: usize = meaning::SiteTable::MOST + 2;
+
+const MUTATIONS: usize = meaning::MutationTable::MOST + 2;
+
+// Where start and length of each column due stand in a case's numbers.
+const DUE: usize = 58;
+
+// Whether the k-th column is the one due.
+fn same(w: &[u32], k: usize, a: &[u32]) -> bool {
+    cases::holds(a, cases::column(w, DUE, k))
+}
+
+fn same_states(w: &[u32], k: usize, a: &[u8]) -> bool {
+    cases::holds_states(a, cases::column(w, DUE, k))
+}
+
+// Whether the columns of a table are those due.
+fn same_nodes(w: &[u32], time: &[u32], birth: &[u32]) -> bool {
+    if !same(w, 0, time) {
+        return false;
+    }
+    same(w, 1, birth)
+}
+
+fn same_edges(w: &[u32], left: &[u32], right: &[u32], parent: &[u32], child: &[u32]) -> bool {
+    if !same(w, 2, left) {
+        return false;
+    }
+    if !same(w, 3, right) {
+        return false;
+    }
+    if !same(w, 4, parent) {
+        return false;
+    }
+    same(w, 5, child)
+}
+
+fn same_sites(w: &[u32], position: &[u32], ancestral: &[u8]) -> bool {
+    if !same(w, 6, position) {
+        return false;
+    }
+    same_states(w, 7, ancestral)
+}
+
+fn same_mutations(w: &[u32], site: &[u32], node: &[u32], derived: &[u8]) -> bool {
+    if !same(w, 8, site) {
+        return false;
+    }
+    if !same(w, 9, node) {
+        return false;
+    }
+    same_states(w, 10, derived)
+}
+
+// Whether a case goes as it is due: its answer, and every cell of every lent column and past it.
+pub fn goes(w: &[u32], bytes: &[u8]) -> bool {
+    let mut time = [cases::PATTERN; NODES];
+    let mut birth = [cases::PATTERN; NODES];
+    let mut left = [cases::PATTERN; EDGES];
+    let mut right = [cases::PATTERN; EDGES];
+    let mut parent = [cases::PATTERN; EDGES];
+    let mut child = [cases::PATTERN; EDGES];
+    let mut position = [cases::PATTERN; SITES];
+    let mut ancestral = [cases::MARK; SITES];
+    let mut site = [cases::PATTERN; MUTATIONS];
+    let mut node = [cases::PATTERN; MUTATIONS];
+    let mut derived = [cases::MARK; MUTATIONS];
+    let seen = call::with_nodes(
+        w,
+        bytes,
+        &mut time,
+        &mut birth,
+        &mut left,
+        &mut right,
+        &mut parent,
+        &mut child,
+        &mut position,
+        &mut ancestral,
+        &mut site,
+        &mut node,
+        &mut derived,
+    );
+    if !answer::agrees(w, seen) {
+        return false;
+    }
+    if !same_nodes(w, &time, &birth) {
+        return false;
+    }
+    if !same_edges(w, &left, &right, &parent, &child) {
+        return false;
+    }
+    if !same_sites(w, &position, &ancestral) {
+        return false;
+    }
+    same_mutations(w, &site, &node, &derived)
+}
