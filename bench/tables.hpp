@@ -28,6 +28,14 @@ struct Tables {
         parent.push_back(p);
         child.push_back(c);
     }
+    // Where piece k of so many equal pieces of the chromosome begins.
+    std::uint32_t cut(std::uint64_t k, std::uint64_t pieces) const {
+        return static_cast<std::uint32_t>(len * k / pieces);
+    }
+    // An edge over piece k.
+    void add_piece(std::uint32_t k, std::uint32_t pieces, std::uint32_t p, std::uint32_t c) {
+        add_edge(cut(k, pieces), cut(k + 1ull, pieces), p, c);
+    }
     // The edges in key order: parent time, parent birth, child birth, left.
     void order() {
         std::vector<std::uint32_t> rows(left.size());
@@ -57,7 +65,7 @@ struct Draw {
 // So many sites spread over the chromosome, each with one mutation on a row drawn among those with an edge below.
 inline void mutate(Tables &t, std::size_t sites, Draw &draw) {
     for (std::size_t i = 0; i < sites; ++i) {
-        t.position.push_back(static_cast<std::uint32_t>((std::uint64_t(t.len) * i) / sites));
+        t.position.push_back(t.cut(i, sites));
         t.ancestral.push_back(65);
         t.site.push_back(static_cast<std::uint32_t>(i));
         t.node.push_back(draw(static_cast<std::uint32_t>(t.time.size())));
@@ -99,9 +107,7 @@ inline Tables line_under_changes(std::size_t nodes) {
     for (std::uint32_t i = 0; i + 1 < line; ++i) t.add_edge(0, t.len, row[i + 1], row[i]);
     const std::uint32_t pieces = static_cast<std::uint32_t>(3 * nodes);
     for (std::uint32_t k = 0; k < pieces; ++k) {
-        const std::uint32_t l = static_cast<std::uint32_t>((std::uint64_t(t.len) * k) / pieces);
-        const std::uint32_t r = static_cast<std::uint32_t>((std::uint64_t(t.len) * (k + 1)) / pieces);
-        t.add_edge(l, r, row[0], k % 2 ? a : b);
+        t.add_piece(k, pieces, row[0], k % 2 ? a : b);
     }
     t.samples = {1, 2};
     t.order();
@@ -123,9 +129,7 @@ inline Tables comb(std::size_t nodes) {
     const std::uint32_t pieces = 8;  // more, and the result passes the limit of edges
     for (std::uint32_t i = 0; i < teeth; ++i)
         for (std::uint32_t k = 0; k < pieces; ++k) {
-            const std::uint32_t l = static_cast<std::uint32_t>((std::uint64_t(t.len) * k) / pieces);
-            const std::uint32_t r = static_cast<std::uint32_t>((std::uint64_t(t.len) * (k + 1)) / pieces);
-            t.add_edge(l, r, row[(i * (line / teeth) + k * 7) % line], tooth[i]);
+            t.add_piece(k, pieces, row[(i * (line / teeth) + k * 7) % line], tooth[i]);
         }
     for (std::uint32_t i = 0; i < teeth; ++i) t.samples.push_back(t.birth[tooth[i]]);
     t.order();
@@ -158,9 +162,7 @@ inline Tables one_child(std::size_t nodes) {
     for (std::uint32_t i = 2; i < nodes; ++i) t.add_node(i, 1 + i);
     const std::uint32_t pieces = static_cast<std::uint32_t>(4 * nodes - 1);
     for (std::uint32_t k = 0; k < pieces; ++k) {
-        const std::uint32_t l = static_cast<std::uint32_t>((std::uint64_t(t.len) * k) / pieces);
-        const std::uint32_t r = static_cast<std::uint32_t>((std::uint64_t(t.len) * (k + 1)) / pieces);
-        t.add_edge(l, r, 2 + (k * 5) % static_cast<std::uint32_t>(nodes - 2), a);
+        t.add_piece(k, pieces, 2 + (k * 5) % static_cast<std::uint32_t>(nodes - 2), a);
     }
     t.add_edge(0, t.len, 2, b);
     t.samples = {1, 2};
