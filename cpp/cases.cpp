@@ -171,33 +171,37 @@ void ragged(Suite &s) {
         }
 }
 
-void one_short(Suite &s, Random &random, int rounds) {
+// A call in exact room, then with each output column one cell short in turn, and with blocks of 0 to 5 cells.
+template <class Call> void in_tight_room(Suite &s, const Rooms &exact, Call call) {
     const std::uint32_t table[] = {1, 1, 2, 2, 2, 2, 3, 3, 4, 4, 4, 6, 7};
+    call("exact room", exact);
+    for (std::size_t i = 0; i < 13; ++i) {
+        Rooms rooms = exact;
+        const auto all_rooms = rooms.all();
+        std::size_t &room = *all_rooms[i];
+        if (room == 0) continue;
+        --room;
+        const reference::Answer a = call("one short", rooms);
+        s.expect(a.number == 13 && a.row == table[i], "one short: table");
+    }
+    for (std::size_t block = 0; block < 6; ++block) {
+        Rooms rooms = exact;
+        rooms.block = block;
+        call("block", rooms);
+    }
+}
+
+void one_short(Suite &s, Random &random, int rounds) {
     for (int round = 0; round < rounds; ++round) {
         const Record r = round == 0 ? listing() : random_record(random, 14);
         if (reference::check(r.length, r.tables, r.samples).number != 0) continue;
-        const Rooms exact = Rooms::exact(reference::simplify(r.length, r.tables, r.samples));
-        s.clean("exact room", r, exact);
-        for (std::size_t i = 0; i < 13; ++i) {
-            Rooms rooms = exact;
-            const auto all_rooms = rooms.all();
-            std::size_t &room = *all_rooms[i];
-            if (room == 0) continue;
-            --room;
-            const reference::Answer a = s.clean("one short", r, rooms);
-            s.expect(a.number == 13 && a.row == table[i], "one short: table");
-        }
-        for (std::size_t block = 0; block < 6; ++block) {
-            Rooms rooms = exact;
-            rooms.block = block;
-            s.clean("block", r, rooms);
-        }
+        in_tight_room(s, Rooms::exact(reference::simplify(r.length, r.tables, r.samples)),
+                      [&](const char *what, const Rooms &rooms) { return s.clean(what, r, rooms); });
     }
 }
 
 #ifndef FFR_NO_JOIN
 void join_cases(Suite &s, Random &random, int rounds) {
-    const std::uint32_t table[] = {1, 1, 2, 2, 2, 2, 3, 3, 4, 4, 4, 0, 7};
     for (int round = 0; round < rounds; ++round) {
         const Record r = round == 0 ? listing() : random_record(random, 14);
         const Batch b = random_batch(random, r);
@@ -205,22 +209,8 @@ void join_cases(Suite &s, Random &random, int rounds) {
         all.nodes = all.edges = all.sites = all.mutations = all.map = all.block = 10000;
         const reference::Result joined = reference::join(r.length, r.tables, b, all);
         if (joined.answer.number != 0) continue;
-        const Rooms exact = Rooms::exact(joined);
-        s.join("join, exact room", r, b, exact);
-        for (std::size_t i = 0; i < 13; ++i) {
-            Rooms rooms = exact;
-            const auto all_rooms = rooms.all();
-            std::size_t &room = *all_rooms[i];
-            if (room == 0) continue;
-            --room;
-            const reference::Answer a = s.join("join, one short", r, b, rooms);
-            s.expect(a.number == 13 && a.row == table[i], "join, one short: table");
-        }
-        for (std::size_t block = 0; block < 6; ++block) {
-            Rooms rooms = exact;
-            rooms.block = block;
-            s.join("join, block", r, b, rooms);
-        }
+        in_tight_room(s, Rooms::exact(joined),
+                      [&](const char *what, const Rooms &rooms) { return s.join(what, r, b, rooms); });
     }
 }
 

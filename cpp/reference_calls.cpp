@@ -91,18 +91,23 @@ std::uint64_t finish(reference::Result &r, const Tables &input, const Outs &outs
 #define CELLS(name) {name, name + name##_len}
 #define LENT(name) {name, name##_len}
 
+// Tables 1 to 4 and the lent columns, by the names that both calls give them.
+#define BASE_TABLES                                                                                                    \
+    {{CELLS(time), CELLS(birth)},                                                                                      \
+     {CELLS(left), CELLS(right), CELLS(parent), CELLS(child)},                                                         \
+     {CELLS(position), CELLS(ancestral)},                                                                              \
+     {CELLS(site), CELLS(node), CELLS(derived)}}
+#define LENT_TABLES                                                                                                    \
+    {LENT(out_time),  LENT(out_birth),    LENT(out_left),      LENT(out_right), LENT(out_parent), LENT(out_child),     \
+     LENT(out_position), LENT(out_ancestral), LENT(out_site), LENT(out_node), LENT(out_derived), LENT(block)}
+
 extern "C" std::uint64_t ffr_clean(
     std::uint32_t length, IN32(time), IN32(birth), IN32(left), IN32(right), IN32(parent), IN32(child), IN32(position),
     IN8(ancestral), IN32(site), IN32(node), IN8(derived), IN32(samples), OUT32(out_time), OUT32(out_birth),
     OUT32(out_left), OUT32(out_right), OUT32(out_parent), OUT32(out_child), OUT32(out_position), OUT8(out_ancestral),
     OUT32(out_site), OUT32(out_node), OUT8(out_derived), OUT32(out_map), OUT32(block)) {
-    const Tables input{{CELLS(time), CELLS(birth)},
-                       {CELLS(left), CELLS(right), CELLS(parent), CELLS(child)},
-                       {CELLS(position), CELLS(ancestral)},
-                       {CELLS(site), CELLS(node), CELLS(derived)}};
-    const Outs outs{LENT(out_time),   LENT(out_birth),    LENT(out_left),      LENT(out_right),
-                    LENT(out_parent), LENT(out_child),    LENT(out_position),  LENT(out_ancestral),
-                    LENT(out_site),   LENT(out_node),     LENT(out_derived),   LENT(block)};
+    const Tables input BASE_TABLES;
+    const Outs outs LENT_TABLES;
     const Out<std::uint32_t> map LENT(out_map);
     reference::Result r = reference::clean(length, input, CELLS(samples), outs.room(map.length));
     if (FFR_FAULT == 7 && r.answer.number == 13 && map.length > 0) map.cells[0] = 0; // written, and then no room found
@@ -116,13 +121,8 @@ extern "C" std::uint64_t ffr_join(
     IN32(batch_right), IN32(batch_parent), IN32(batch_child), IN32(batch_site), IN32(batch_node), IN8(batch_derived),
     OUT32(out_time), OUT32(out_birth), OUT32(out_left), OUT32(out_right), OUT32(out_parent), OUT32(out_child),
     OUT32(out_position), OUT8(out_ancestral), OUT32(out_site), OUT32(out_node), OUT8(out_derived), OUT32(block)) {
-    const Tables input{{CELLS(time), CELLS(birth)},
-                       {CELLS(left), CELLS(right), CELLS(parent), CELLS(child)},
-                       {CELLS(position), CELLS(ancestral)},
-                       {CELLS(site), CELLS(node), CELLS(derived)}};
-    const Outs outs{LENT(out_time),   LENT(out_birth),    LENT(out_left),      LENT(out_right),
-                    LENT(out_parent), LENT(out_child),    LENT(out_position),  LENT(out_ancestral),
-                    LENT(out_site),   LENT(out_node),     LENT(out_derived),   LENT(block)};
+    const Tables input BASE_TABLES;
+    const Outs outs LENT_TABLES;
     reference::Batch batch{{CELLS(batch_time), CELLS(batch_birth)},
                            {CELLS(batch_left), CELLS(batch_right), CELLS(batch_parent), CELLS(batch_child)},
                            {CELLS(batch_site), CELLS(batch_node), CELLS(batch_derived)}};
