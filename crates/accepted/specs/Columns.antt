@@ -9,7 +9,7 @@ use lib.Dec.{eqb}
 use lib.ListN.{length}
 use borrow.Author.Tests.{eqb-true, eq-eqb, ne-eqb}
 use Rattle.meaning.specs.Words.{at, mem, rows, rowsFrom, indexOf}
-use Rattle.meaning.specs.Rows.{NodeColumns, SiteColumns, Node, Edge, Site, births, nodesOf, sitesOf, nodeOf, timeOf, posOf}
+use Rattle.meaning.specs.Rows.{NodeColumns, SiteColumns, Node, Edge, Site, births, nodeAt, nodesOf, sitesOf, nodeOf, timeOf, posOf}
 use Rattle.laws.specs.Bools.{clash, not-true, eq?}
 use Rattle.laws.specs.Counting.{rows-at, map-rows}
 use Rattle.laws.specs.Members.{index-at, index-below}
@@ -92,7 +92,7 @@ pub births-of : (N : NodeColumns) → length (N .birth) ≡ length (N .time) →
 unfolding nodesOf
 births-of N e =
     births-map (nodesOf N)
-    ∙ map-rows (λ (n : Node). n .birth) (λ i. record { time = at (N .time) i; birth = at (N .birth) i }) (length (N .time))
+    ∙ map-rows (λ (n : Node). n .birth) (nodeAt N) (length (N .time))
     ∙ ap (rows (at (N .birth))) (sym e)
     ∙ rows-at (N .birth)
 
@@ -124,10 +124,14 @@ node-from f i (suc k) r b p q e h = ⊎-elim
     (λ (c : f i .birth ≡ b → ⊥). node-miss (f i) (rowsFrom f (suc i) k) b c ∙ node-from f (suc i) k r b (⊎-elim (λ (z : i ≡ r). absurd (c (rw z e))) (λ (z : i ≡ r → ⊥). omega arith) (eq? i r)) (omega arith) e (λ j l. h j (omega arith)))
     (eq? (f i .birth) b)
 
--- the time of the fish of row i is the time of row i
+-- the row of the fish of row i is row i
+pub node-of : (N : NodeColumns) → length (N .birth) ≡ length (N .time) → Apart (N .birth) → (i : ℕ) → i < length (N .time) → nodeOf (nodesOf N) (at (N .birth) i) ≡ nodeAt N i
+unfolding nodesOf rows
+node-of N e h i l = node-from (nodeAt N) 0 (length (N .time)) i (at (N .birth) i) (omega arith) (omega arith) refl (λ j k c. same-row (N .birth) h j i (omega arith) (omega arith) c)
+
 pub time-of : (N : NodeColumns) → length (N .birth) ≡ length (N .time) → Apart (N .birth) → (i : ℕ) → i < length (N .time) → timeOf (nodesOf N) (at (N .birth) i) ≡ at (N .time) i
-unfolding timeOf nodesOf rows
-time-of N e h i l = ap (λ (n : Node). n .time) (node-from (λ i. record { time = at (N .time) i; birth = at (N .birth) i }) 0 (length (N .time)) i (at (N .birth) i) (omega arith) (omega arith) refl (λ j k c. same-row (N .birth) h j i (omega arith) (omega arith) c))
+unfolding timeOf
+time-of N e h i l = ap (λ (n : Node). n .time) (node-of N e h i l)
 
 pub time-below : (most : ℕ) (l : List Node) (b : ℕ) → 0 < most → All (λ (n : Node). n .time < most) l → timeOf l b < most
 unfolding timeOf

@@ -10,3 +10,4 @@ pub mod Joins
 pub mod Rooms
 pub mod Calls
 pub mod Numbers
+pub mod Endings

@@ -7,8 +7,8 @@ use lib.Dec.{ltb}
 use lib.ListN.{length}
 use borrow.Author.Tests.{ltb-false, le-ltb}
 use Rattle.meaning.specs.Rows.{Tables}
-use Rattle.meaning.specs.Answer.{Answer, Limits, refuse, room, lacks}
-use Rattle.meaning.specs.Lent.{fitThen}
+use Rattle.meaning.specs.Answer.{Answer, Limits, done, refuse, room, lacks}
+use Rattle.meaning.specs.Lent.{fitThen, blockThen}
 use Rattle.laws.specs.Bools.{or-no}
 use Rattle.laws.specs.Facts.{All}
 use Rattle.laws.specs.Facts.All.{also}
@@ -66,3 +66,12 @@ module _ (m : Limits) (new out : Tables) (rest : Answer) where
       ∙ pass-room (m .edges) (out .edges .left) (out .edges .right ∷ out .edges .parent ∷ out .edges .child ∷ []) (length (new .edges .left)) 13 2 _ (h .edges)
       ∙ pass-room (m .sites) (out .sites .position) (out .sites .ancestral ∷ []) (length (new .sites .position)) 13 3 _ (h .sites)
       ∙ pass-room (m .mutations) (out .muts .site) (out .muts .node ∷ out .muts .derived ∷ []) (length (new .muts .site)) 13 4 rest (h .muts)
+
+-- a block that is not short
+pub block-long : (cells : ℕ) → Accepted (blockThen cells done) → 4 ≤ cells
+unfolding blockThen
+block-long cells h = ltb-false cells 4 (passed (ltb cells 4) 13 7 done (omega arith) h .0)
+
+pub block-done : (cells : ℕ) → 4 ≤ cells → blockThen cells done ≡ done
+unfolding blockThen
+block-done cells h = pass (ltb cells 4) 13 7 done (le-ltb cells 4 h)

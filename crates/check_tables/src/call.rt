@@ -27,23 +27,8 @@ fn said(number: usize, row: usize) -> Answer {
 
 // 01's number and row of a refusal.
 fn refusal(r: Refusal) -> Answer {
-    match r {
-        Refusal::Ragged(t) => said(1, t),
-        Refusal::TooMany(t) => said(2, t),
-        Refusal::Length => said(3, 0),
-        Refusal::BirthRepeated(i) => said(4, i),
-        Refusal::EdgeBroken(i) => said(5, i),
-        Refusal::EdgeOrder(i) => said(6, i),
-        Refusal::EdgeShared(i) => said(7, i),
-        Refusal::SiteBroken(i) => said(8, i),
-        Refusal::MutationBroken(i) => said(9, i),
-        Refusal::MutationAbove(i) => said(10, i),
-        Refusal::SampleUnknown(i) => said(11, i),
-        Refusal::SampleRepeated(i) => said(12, i),
-        Refusal::NoSite => said(41, 0),
-        Refusal::NoBirth => said(42, 0),
-        _ => said(Answer::STRANGE, 0),
-    }
+    let t = meaning::tell(r);
+    said(t.number as usize, t.row)
 }
 
 fn checked(c: Checked) -> Answer {

@@ -1,8 +1,8 @@
 // One call of the cleaner on the columns of a case, and what came of it held to what is due.
 ghost use Prim.Native.Nat.{_<_};
 use crate::cells;
-use cleaner::Cleaned;
 use meaning::Refusal;
+use meaning::Tabled;
 
 // Cells of lent columns: two more than the limit, so that a room of one more still has a cell past it.
 const NODES: usize = meaning::NodeTable::MOST + 2;
@@ -45,30 +45,15 @@ fn refusal(number: u32, row: usize) -> Seen {
     }
 }
 
-// Number and row of a refusal; 99 for one that a cleaning never gives.
 fn refused(x: Refusal) -> Seen {
-    match x {
-        Refusal::Ragged(t) => refusal(1, t),
-        Refusal::TooMany(t) => refusal(2, t),
-        Refusal::Length => refusal(3, 0),
-        Refusal::BirthRepeated(i) => refusal(4, i),
-        Refusal::EdgeBroken(i) => refusal(5, i),
-        Refusal::EdgeOrder(i) => refusal(6, i),
-        Refusal::EdgeShared(i) => refusal(7, i),
-        Refusal::SiteBroken(i) => refusal(8, i),
-        Refusal::MutationBroken(i) => refusal(9, i),
-        Refusal::MutationAbove(i) => refusal(10, i),
-        Refusal::SampleUnknown(i) => refusal(11, i),
-        Refusal::SampleRepeated(i) => refusal(12, i),
-        Refusal::NoRoom(t) => refusal(13, t),
-        _ => refusal(99, 0),
-    }
+    let t = meaning::tell(x);
+    refusal(t.number, t.row)
 }
 
-fn answered(r: Cleaned) -> Seen {
+fn answered(r: Tabled) -> Seen {
     match r {
-        Cleaned::Refused(x) => refused(x),
-        Cleaned::Done {
+        Tabled::Refused(x) => refused(x),
+        Tabled::Done {
             nodes,
             edges,
             sites,

@@ -12,12 +12,13 @@ use Rattle.meaning.specs.Rows.{Tables}
 use Rattle.meaning.specs.Forest.{Ages, stands}
 use Rattle.meaning.specs.Answer.{Answer, done, limits, refusalOf, checkedOf}
 use Rattle.meaning.specs.Check.{checkAllThen, check}
-use Rattle.meaning.specs.Clean.{Outcome, cleaned, nodeMap}
-use Rattle.meaning.specs.Called.{cleaningTo}
+use Rattle.meaning.specs.Lent.{no-rows-written}
+use Rattle.meaning.specs.Clean.{Outcome, cleanEnd, cleanFit, cleaned, nodeMap, cleaning}
 use Rattle.accepted.specs.Calls.{check-tells}
+use Rattle.accepted.specs.Endings.{clean-refused}
 use Rattle.byrows.specs.Ground.{Ground}
 use Rattle.checker.proofs.After.{Hands, hands, all-after, refused, stops, goes-on, was-sound}
-use Rattle.cleaner.specs.Outcome.{nothing, ending, fitAnswer, afterCheck, cleaning-by, ending-refused}
+use Rattle.cleaner.specs.Outcome.{afterCheck, cleaning-by}
 
 module _ (L : ℕ) (T : Tables) (S : List ℕ) (c : Checked) (e : checkedOf c ≡ check limits L T S) where
   hand : Hands (checkAllThen limits L T S)
@@ -34,19 +35,19 @@ module _ (L : ℕ) (T : Tables) (S : List ℕ) (c : Checked) (e : checkedOf c �
 
   module _ (out : Tables) (outMap : List ℕ) (cells : ℕ) where
     abbrev rest : Answer
-    rest = fitAnswer (cleaned stands L T S) (nodeMap stands L T S) out outMap cells
+    rest = cleanFit limits (cleaned stands L T S) (nodeMap stands L T S) out outMap cells
 
-    pub call-refused : (r : Refusal) → c ≡ checked.Refused r → _≡_ {A = Outcome} (record { answer = refusalOf r; counts = nothing; cells = out; map = outMap }) (cleaningTo stands limits L T S out outMap cells)
+    pub call-refused : (r : Refusal) → c ≡ checked.Refused r → _≡_ {A = Outcome} (record { answer = refusalOf r; counts = no-rows-written; cells = out; map = outMap }) (cleaning stands limits L T S out outMap cells)
     call-refused r q = sym (
         cleaning-by L T S out outMap cells (refusalOf r) (sym (stops (checkAllThen limits L T S) hand c found r q rest) ∙ ap checkedOf q)
-        ∙ ending-refused (refusalOf r) (cleaned stands L T S) (nodeMap stands L T S) out outMap (refused r)
+        ∙ clean-refused (refusalOf r) (refused r) (cleaned stands L T S) (nodeMap stands L T S) out outMap
         )
 
-    pub call-done : c ≡ checked.Sound → (o : Outcome) → o ≡ afterCheck L T S out outMap cells → o ≡ cleaningTo stands limits L T S out outMap cells
+    pub call-done : c ≡ checked.Sound → (o : Outcome) → o ≡ afterCheck L T S out outMap cells → o ≡ cleaning stands limits L T S out outMap cells
     unfolding afterCheck
     call-done q o f = f ∙ sym (cleaning-by L T S out outMap cells rest (goes-on (checkAllThen limits L T S) hand c found q rest))
 
 -- what is stored of the result is what comes after the check
-pub after-check : (L : ℕ) (T : Tables) (S : List ℕ) (out : Tables) (outMap : List ℕ) (cells : ℕ) (o : Outcome) → o ≡ ending (fitAnswer (cleaned stands L T S) (nodeMap stands L T S) out outMap cells) (cleaned stands L T S) (nodeMap stands L T S) out outMap → o ≡ afterCheck L T S out outMap cells
+pub after-check : (L : ℕ) (T : Tables) (S : List ℕ) (out : Tables) (outMap : List ℕ) (cells : ℕ) (o : Outcome) → o ≡ cleanEnd (cleanFit limits (cleaned stands L T S) (nodeMap stands L T S) out outMap cells) (cleaned stands L T S) (nodeMap stands L T S) out outMap → o ≡ afterCheck L T S out outMap cells
 unfolding afterCheck
 after-check L T S out outMap cells o e = e

@@ -10,8 +10,7 @@ use borrow.Author.Tests.{lt-ltb, le-ltb}
 use Rattle.meaning.specs.Words.{or}
 use Rattle.meaning.specs.Rows.{Tables}
 use Rattle.meaning.specs.Answer.{Answer, answer, done, limits, refuse, room, lacks}
-use Rattle.meaning.specs.Lent.{fitThen}
-use Rattle.meaning.specs.Called.{blockThen}
+use Rattle.meaning.specs.Lent.{fitThen, blockThen}
 use Rattle.writing.specs.Room.{Needs, Lent, needsOf, lentBy, roomOf, roomAnswer}
 
 -- the table without room, or 7 for a block of under four cells, or 0

@@ -12,13 +12,14 @@ use borrow.Author.Tests.{ltb-true, ltb-false, lt-ltb, le-ltb}
 use Rattle.meaning.specs.Words.{or}
 use Rattle.meaning.specs.Rows.{Tables}
 use Rattle.meaning.specs.Answer.{Answer, answer, done, limits, refuse, accepted, put}
-use Rattle.meaning.specs.Called.{blockThen}
+use Rattle.meaning.specs.Lent.{putAll, blockThen, no-rows-written}
+use Rattle.meaning.specs.Clean.{cleanEnd, cleanFit}
 use Rattle.laws.specs.Bools.{or-no, or-left}
 use Rattle.accepted.specs.Refusals.{Accepted, passed}
+use Rattle.accepted.specs.Endings.{clean-refused, clean-done}
 use Rattle.writing.specs.Room.{Needs, Lent, needsOf, lentBy, roomOf}
-use Rattle.cleaner.specs.Work.{Base, Work, written, putAll, Written, Safe, Held}
+use Rattle.cleaner.specs.Work.{Base, Work, written, Written, Safe, Held}
 use Rattle.cleaner.specs.Block.{roomWithin, room-within}
-use Rattle.cleaner.specs.Outcome.{fitAnswer, ending, ending-done, ending-refused, nothing}
 
 -- the rows keep to the limits, and each column has a cell for each
 pub record RoomFor (n : Needs) (l : Lent) : Type 0 where
@@ -106,8 +107,8 @@ module _ (B : Base) (W : Work) (safe : Safe B W) (new : Tables) (newMap : List �
       go false e = ap (λ z. or (ltb (limits .edges) z) (ltb room z)) (edges-count (ltb-false (limits .edges) (W .edges) e))
 
   -- the answer after the check, by the columns' numbers
-  pub fit-answer : (out : Tables) (outMap : List ℕ) (cells : ℕ) → fitAnswer new newMap out outMap cells ≡ roomWithin (needsIn B W) (lentBy out outMap) cells
-  unfolding fitAnswer roomWithin
+  pub fit-answer : (out : Tables) (outMap : List ℕ) (cells : ℕ) → cleanFit limits new newMap out outMap cells ≡ roomWithin (needsIn B W) (lentBy out outMap) cells
+  unfolding cleanFit roomWithin
   fit-answer out outMap cells = room-within new newMap out outMap cells ∙ same
     where
       l : Lent
@@ -123,19 +124,19 @@ module _ (B : Base) (W : Work) (safe : Safe B W) (new : Tables) (newMap : List �
 
   module _ (out : Tables) (outMap : List ℕ) (cells : ℕ) where
     -- a table without room: nothing is written
-    pub stored-refused : (t : ℕ) → (t ≡ 0 → ⊥) → roomOf t ≡ roomWithin (needsIn B W) (lentBy out outMap) cells → record { answer = answer 13 t; counts = nothing; cells = out; map = outMap } ≡ ending (fitAnswer new newMap out outMap cells) new newMap out outMap
+    pub stored-refused : (t : ℕ) → (t ≡ 0 → ⊥) → roomOf t ≡ roomWithin (needsIn B W) (lentBy out outMap) cells → record { answer = answer 13 t; counts = no-rows-written; cells = out; map = outMap } ≡ cleanEnd (cleanFit limits new newMap out outMap cells) new newMap out outMap
     unfolding roomOf accepted
     stored-refused zero n e = absurd (n refl)
-    stored-refused (suc t) n e = sym (ap (λ (a : Answer). ending a new newMap out outMap) (fit-answer out outMap cells ∙ sym e) ∙ ending-refused (answer 13 (suc t)) new newMap out outMap refl)
+    stored-refused (suc t) n e = sym (ap (λ (a : Answer). cleanEnd a new newMap out outMap) (fit-answer out outMap cells ∙ sym e) ∙ clean-refused (answer 13 (suc t)) refl new newMap out outMap)
 
     -- all fits: the result stands at the front
-    pub stored-done : (t : ℕ) → t ≡ 0 → roomOf t ≡ roomWithin (needsIn B W) (lentBy out outMap) cells → (out' : Tables) (outMap' : List ℕ) → Written B W out outMap out' outMap' → record { answer = done; counts = record { nodes = W .nodes; edges = W .edges; sites = length (B .position); mutations = W .mutations }; cells = out'; map = outMap' } ≡ ending (fitAnswer new newMap out outMap cells) new newMap out outMap
+    pub stored-done : (t : ℕ) → t ≡ 0 → roomOf t ≡ roomWithin (needsIn B W) (lentBy out outMap) cells → (out' : Tables) (outMap' : List ℕ) → Written B W out outMap out' outMap' → record { answer = done; counts = record { nodes = W .nodes; edges = W .edges; sites = length (B .position); mutations = W .mutations }; cells = out'; map = outMap' } ≡ cleanEnd (cleanFit limits new newMap out outMap cells) new newMap out outMap
     stored-done t z f out' outMap' w =
         let e : roomWithin (needsIn B W) (lentBy out outMap) cells ≡ done = room-zero t (needsIn B W) (lentBy out outMap) cells z f in
         let l : W .edges ≤ limits .edges = room-for (needsIn B W) (lentBy out outMap) cells e .edges-few in
         sym (
-        ap (λ (a : Answer). ending a new newMap out outMap) (fit-answer out outMap cells ∙ e)
-        ∙ ending-done new newMap out outMap
+        ap (λ (a : Answer). cleanEnd a new newMap out outMap) (fit-answer out outMap cells ∙ e)
+        ∙ clean-done new newMap out outMap
         ∙ (λ i. record {
           answer = done;
           counts = record { nodes = nodes-count i; edges = edges-count l i; sites = sites-count i; mutations = muts-count i };

@@ -23,7 +23,8 @@ use Rattle.byrows.specs.Standing.{parent-stands}
 use Rattle.runs.specs.Runs.{Store, Cell, Stored, Apart, Once, none-twice, once-more, Collected, no-edge}
 use Rattle.runs.specs.Collected.{byRowKey, length-sort}
 use Rattle.writing.specs.Renamed.{renamed}
-use Rattle.cleaner.specs.Reading.{map-inside, at-map, renamed-at, rows-of, all-get}
+use Rattle.cleaner.specs.Reading.{map-inside, renamed-at, rows-of, all-get}
+use Rattle.laws.specs.Members.{at-map}
 use Rattle.cleaner.specs.Places.{kept-of, named}
 use Rattle.cleaner.specs.Tracing.{EdgesFinished}
 

@@ -21,7 +21,7 @@ use Rattle.byrows.specs.Ground.{Ground}
 use Rattle.byrows.specs.Kept.{Others}
 use Rattle.byrows.specs.Standing.{rows-aged, rows-nodes}
 use Rattle.writing.specs.Renamed.{renamed}
-use Rattle.cleaner.specs.Reading.{at-map}
+use Rattle.laws.specs.Members.{at-map}
 
 pub renamed-row : (names : List ℕ) (v : ℕ) → v < length names → renamed names v ≡ at names v
 unfolding renamed

@@ -9,6 +9,7 @@ use lib.Seq.{ext-getD, length-take-le, getD-take}
 use Rattle.meaning.specs.Words.{at, rows}
 use Rattle.meaning.specs.Rows.{Edge}
 use Rattle.meaning.specs.Answer.{put}
+use Rattle.laws.specs.Members.{at-map}
 use Rattle.laws.specs.Counting.{length-rows, get-rows}
 use Rattle.laws.specs.Facts.{All, done, also}
 use Rattle.order.specs.Order.{Inside}
@@ -17,11 +18,6 @@ use Rattle.order.specs.Order.{Inside}
 pub map-inside : {A : Type 0} (n : ℕ) (f g : ℕ → A) (l : List ℕ) → Inside n l → ((v : ℕ) → v < n → f v ≡ g v) → map f l ≡ map g l
 map-inside n f g [] s h = refl
 map-inside n f g (a ∷ l) s h = ap₂ _∷_ (h a (s .row 0 (omega arith))) (map-inside n f g l (record { row = λ i k. s .row (suc i) (omega arith) }) h)
-
-pub at-map : (f : ℕ → ℕ) (l : List ℕ) (i : ℕ) → i < length l → at (map f l) i ≡ f (at l i)
-at-map f [] i h = absurd (omega arith)
-at-map f (a ∷ l) zero h = refl
-at-map f (a ∷ l) (suc i) h = at-map f l i (omega arith)
 
 -- a cell of the written front
 pub put-at : (new old : List ℕ) (i : ℕ) → i < length new → at (put new old) i ≡ at new i

@@ -6,6 +6,7 @@ use lib.ListN.{length, take}
 use Rattle.meaning.specs.Words.{at}
 use Rattle.meaning.specs.Rows.{Tables}
 use Rattle.meaning.specs.Answer.{limits, put}
+use Rattle.meaning.specs.Lent.{putAll}
 use Rattle.order.specs.Order.{Inside}
 
 -- the columns of the input that are copied
@@ -50,25 +51,6 @@ written B W = record {
     site = map (at (B .site)) (take (W .mutations) (W .moved));
     node = map (at (W .lows)) (take (W .mutations) (W .moved));
     derived = map (at (B .derived)) (take (W .mutations) (W .moved));
-  };
-}
-
--- tables put at the front of lent ones
-unfoldable pub putAll : Tables → Tables → Tables
-unfolding put
-putAll new out = record {
-  nodes = record { time = put (new .nodes .time) (out .nodes .time); birth = put (new .nodes .birth) (out .nodes .birth) };
-  edges = record {
-    left = put (new .edges .left) (out .edges .left);
-    right = put (new .edges .right) (out .edges .right);
-    parent = put (new .edges .parent) (out .edges .parent);
-    child = put (new .edges .child) (out .edges .child);
-  };
-  sites = record { position = put (new .sites .position) (out .sites .position); ancestral = put (new .sites .ancestral) (out .sites .ancestral) };
-  muts = record {
-    site = put (new .muts .site) (out .muts .site);
-    node = put (new .muts .node) (out .muts .node);
-    derived = put (new .muts .derived) (out .muts .derived);
   };
 }
 

@@ -7,18 +7,18 @@ ghost use Prim.Native.Nat.{ℕ, _≤_};
 ghost use lib.ListN.{length};
 ghost use Rattle.meaning.specs.Forest.{stands};
 ghost use Rattle.meaning.specs.Answer.{limits};
-ghost use Rattle.meaning.specs.Clean.{cleaned, nodeMap};
+ghost use Rattle.meaning.specs.Clean.{outcomeOf, cleaned, nodeMap};
 ghost use Rattle.byrows.specs.Ground.{Ground};
-ghost use Rattle.cleaner.specs.Outcome.{outcomeOf, afterCheck};
+ghost use Rattle.cleaner.specs.Outcome.{afterCheck};
 ghost use Rattle.cleaner.specs.Tracing.{Passed};
 ghost use Rattle.cleaner.specs.Work.{Holds};
-use crate::Cleaned;
 use crate::rank;
 use crate::store;
 use crate::trace;
 use meaning::EdgeTable;
 use meaning::MutationTable;
 use meaning::NodeTable;
+use meaning::Tabled;
 
 // Room for the samples' rows and then every row.
 const KEPT: usize = 1280;
@@ -117,7 +117,7 @@ pub fn clean_sound(
     out_derived: &mut [u8],
     out_map: &mut [u32],
     cells: usize,
-) -> Cleaned
+) -> Tabled
     requires { ⌜ Ground limits len (record { nodes = record { time = now time; birth = now birth }; edges = record { left = now left; right = now right; parent = now parent; child = now child }; sites = record { position = now position; ancestral = now ancestral }; muts = record { site = now site; node = now node; derived = now derived } }) (now samples) ⌝ }
     ensures { λ r. ⌜ outcomeOf r (record { nodes = record { time = now («out_time» .exit); birth = now («out_birth» .exit) }; edges = record { left = now («out_left» .exit); right = now («out_right» .exit); parent = now («out_parent» .exit); child = now («out_child» .exit) }; sites = record { position = now («out_position» .exit); ancestral = now («out_ancestral» .exit) }; muts = record { site = now («out_site» .exit); node = now («out_node» .exit); derived = now («out_derived» .exit) } }) (now («out_map» .exit)) ≡ afterCheck len (record { nodes = record { time = now (time .entry); birth = now (birth .entry) }; edges = record { left = now (left .entry); right = now (right .entry); parent = now (parent .entry); child = now (child .entry) }; sites = record { position = now (position .entry); ancestral = now (ancestral .entry) }; muts = record { site = now (site .entry); node = now (node .entry); derived = now (derived .entry) } }) (now (samples .entry)) (record { nodes = record { time = now («out_time» .entry); birth = now («out_birth» .entry) }; edges = record { left = now («out_left» .entry); right = now («out_right» .entry); parent = now («out_parent» .entry); child = now («out_child» .entry) }; sites = record { position = now («out_position» .entry); ancestral = now («out_ancestral» .entry) }; muts = record { site = now («out_site» .entry); node = now («out_node» .entry); derived = now («out_derived» .entry) } }) (now («out_map» .entry)) cells ⌝ }
 {

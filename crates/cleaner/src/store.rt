@@ -5,15 +5,15 @@ ghost use Prim.Native.Nat.{ℕ, _<_, _≤_};
 ghost use lib.ListN.{length, take};
 ghost use Rattle.meaning.specs.Words.{at};
 ghost use Rattle.meaning.specs.Rows.{Tables};
-ghost use Rattle.meaning.specs.Answer.{put};
+ghost use Rattle.meaning.specs.Answer.{limits, put};
 ghost use Rattle.order.specs.Order.{Inside};
-ghost use Rattle.cleaner.specs.Outcome.{outcomeOf, ending, fitAnswer};
+ghost use Rattle.meaning.specs.Clean.{outcomeOf, cleanEnd, cleanFit};
 ghost use Rattle.writing.specs.Room.{lentBy};
 ghost use Rattle.cleaner.specs.Fitting.{RoomFor};
 ghost use Rattle.cleaner.specs.Work.{Safe, Held, Written};
-use crate::Cleaned;
 use crate::room;
 use meaning::Refusal;
+use meaning::Tabled;
 
 // Table 1: the rows kept.
 fn write_nodes(
@@ -182,9 +182,9 @@ pub fn store(
     out_derived: &mut [u8],
     out_map: &mut [u32],
     cells: usize,
-) -> Cleaned
+) -> Tabled
     requires { ⌜ Safe (record { time = now time; birth = now birth; position = now position; ancestral = now ancestral; site = now site; derived = now derived }) (record { kept = now kept; left = now left; right = now right; parent = now parent; child = now child; order = now order; places = now places; lows = now lows; moved = now moved; nodes = nodes; edges = edges; mutations = mutations }) ⌝ }
-    ensures { λ r. ⌜ ((new : Tables) (newMap : List ℕ) → Held (record { time = now (time .entry); birth = now (birth .entry); position = now (position .entry); ancestral = now (ancestral .entry); site = now (site .entry); derived = now (derived .entry) }) (record { kept = now (kept .entry); left = now (left .entry); right = now (right .entry); parent = now (parent .entry); child = now (child .entry); order = now (order .entry); places = now (places .entry); lows = now (lows .entry); moved = now (moved .entry); nodes = nodes; edges = edges; mutations = mutations }) new newMap → outcomeOf r (record { nodes = record { time = now («out_time» .exit); birth = now («out_birth» .exit) }; edges = record { left = now («out_left» .exit); right = now («out_right» .exit); parent = now («out_parent» .exit); child = now («out_child» .exit) }; sites = record { position = now («out_position» .exit); ancestral = now («out_ancestral» .exit) }; muts = record { site = now («out_site» .exit); node = now («out_node» .exit); derived = now («out_derived» .exit) } }) (now («out_map» .exit)) ≡ ending (fitAnswer new newMap (record { nodes = record { time = now («out_time» .entry); birth = now («out_birth» .entry) }; edges = record { left = now («out_left» .entry); right = now («out_right» .entry); parent = now («out_parent» .entry); child = now («out_child» .entry) }; sites = record { position = now («out_position» .entry); ancestral = now («out_ancestral» .entry) }; muts = record { site = now («out_site» .entry); node = now («out_node» .entry); derived = now («out_derived» .entry) } }) (now («out_map» .entry)) cells) new newMap (record { nodes = record { time = now («out_time» .entry); birth = now («out_birth» .entry) }; edges = record { left = now («out_left» .entry); right = now («out_right» .entry); parent = now («out_parent» .entry); child = now («out_child» .entry) }; sites = record { position = now («out_position» .entry); ancestral = now («out_ancestral» .entry) }; muts = record { site = now («out_site» .entry); node = now («out_node» .entry); derived = now («out_derived» .entry) } }) (now («out_map» .entry))) ⌝ }
+    ensures { λ r. ⌜ ((new : Tables) (newMap : List ℕ) → Held (record { time = now (time .entry); birth = now (birth .entry); position = now (position .entry); ancestral = now (ancestral .entry); site = now (site .entry); derived = now (derived .entry) }) (record { kept = now (kept .entry); left = now (left .entry); right = now (right .entry); parent = now (parent .entry); child = now (child .entry); order = now (order .entry); places = now (places .entry); lows = now (lows .entry); moved = now (moved .entry); nodes = nodes; edges = edges; mutations = mutations }) new newMap → outcomeOf r (record { nodes = record { time = now («out_time» .exit); birth = now («out_birth» .exit) }; edges = record { left = now («out_left» .exit); right = now («out_right» .exit); parent = now («out_parent» .exit); child = now («out_child» .exit) }; sites = record { position = now («out_position» .exit); ancestral = now («out_ancestral» .exit) }; muts = record { site = now («out_site» .exit); node = now («out_node» .exit); derived = now («out_derived» .exit) } }) (now («out_map» .exit)) ≡ cleanEnd (cleanFit limits new newMap (record { nodes = record { time = now («out_time» .entry); birth = now («out_birth» .entry) }; edges = record { left = now («out_left» .entry); right = now («out_right» .entry); parent = now («out_parent» .entry); child = now («out_child» .entry) }; sites = record { position = now («out_position» .entry); ancestral = now («out_ancestral» .entry) }; muts = record { site = now («out_site» .entry); node = now («out_node» .entry); derived = now («out_derived» .entry) } }) (now («out_map» .entry)) cells) new newMap (record { nodes = record { time = now («out_time» .entry); birth = now («out_birth» .entry) }; edges = record { left = now («out_left» .entry); right = now («out_right» .entry); parent = now («out_parent» .entry); child = now («out_child» .entry) }; sites = record { position = now («out_position» .entry); ancestral = now («out_ancestral» .entry) }; muts = record { site = now («out_site» .entry); node = now («out_node» .entry); derived = now («out_derived» .entry) } }) (now («out_map» .entry))) ⌝ }
 {
     let t = room::no_room_within(
         nodes,
@@ -207,7 +207,7 @@ pub fn store(
         cells,
     );
     if t != 0 {
-        return Cleaned::Refused(Refusal::NoRoom(t));
+        return Tabled::Refused(Refusal::NoRoom(t));
     }
     write_all(
         time,
@@ -241,7 +241,7 @@ pub fn store(
         out_derived,
         out_map,
     );
-    Cleaned::Done {
+    Tabled::Done {
         nodes: nodes,
         edges: edges,
         sites: position.len(),

@@ -1,73 +1,191 @@
 -- The letter's three demands, each sentence with the theorem that says it. The functions are those that the code's promises cite.
-use mathlib.Core.Path.{_≡_}
+use mathlib.Core.Path.{_≡_, ap, _∙_}
 use mathlib.Core.Bool.{true, false}
 use mathlib.Core.List.{List, [], _∷_}
-use Prim.Native.Nat.{ℕ, _≤_, _<_}
-use lib.ListN.{length}
-use Rattle.meaning.specs.Words.{mem}
-use Rattle.meaning.specs.Rows.{Tables, recordOf}
+use mathlib.Core.Logic.{_⊎_}
+use Prim.Native.Nat.{ℕ, _≤_, _<_, _^_}
+use lib.ListN.{length, take}
+use Rattle.meaning.specs.Words.{at, mem}
+use Rattle.meaning.specs.Rows.{Tables, Edge, nodeAt, recordOf}
 use Rattle.meaning.specs.Forest.{stands}
-use Rattle.meaning.specs.Answer.{Limits, done, accepted}
+use lib.Dec.{ltb}
+use Rattle.meaning.specs.Answer.{Answer, Limits, done, limits, accepted, refuse, put}
+use Rattle.meaning.specs.Lent.{no-rows-written, rowsIn, putAll}
 use Rattle.meaning.specs.Check.{check}
-use Rattle.meaning.specs.Clean.{cleaned, cleanAnswer, cleaning}
-use Rattle.meaning.specs.Allele.{allele}
-use Rattle.meaning.specs.Join.{BatchTables, batchOf, joined, joinAnswer, joining}
-use Rattle.laws.specs.Facts.{In, Distinct}
-use Rattle.accepted.specs.Refusals.{of-done}
-use Rattle.accepted.specs.Records.{Young}
+use Rattle.meaning.specs.Clean.{cleaned, nodeMap, cleanEnd, cleanAnswer, cleaning}
+use Rattle.meaning.specs.Allele.{alleleAnswer, allele}
+use Rattle.meaning.specs.Join.{BatchTables, batchOf, joined, joinEnd, joinAnswer, joining}
+use Rattle.meaning.specs.Called.{packed, cleanCall, joinCall}
+use Rattle.meaning.specs.Stored.{number}
+use Rattle.meaning.specs.Files.{found, tablesIn, samplesIn, handed, roomAnswer, reading, laid, written, writeAnswer, writing}
+use Rattle.meaning.specs.Printed.{listed}
+use Rattle.meaning.specs.Shown.{zeros, blank, shown}
+use Rattle.laws.specs.Facts.{In, All, Distinct}
+use Rattle.forest.specs.Mrca.{Mrca}
 use Rattle.forest.specs.Profile.{stands-profile}
-use Rattle.results.specs.Trees.{treeAt, Induced, NoUnary}
-use Rattle.results.specs.Published.{induced-subtrees, no-unary-vertices}
+use Rattle.accepted.specs.Refusals.{Accepted, of-done}
+use Rattle.accepted.specs.Records.{Young}
+use Rattle.accepted.specs.Endings.{clean-done, join-done}
+use Rattle.stored.specs.Numbers.{Bytes}
+use Rattle.stored.specs.RoundTrip.{Cells, read-written, written-read}
+use Rattle.results.specs.Trees.{treeAt, Ancestral, Induced, NoUnary}
+use Rattle.results.specs.Published.{induced-subtrees, no-unary-vertices, only-ancestral-nodes, only-ancestral-edges, no-adjacent-edges}
+use Rattle.results.specs.Meetings.{Meeting, meeting-kept, only-meetings}
+use Rattle.results.specs.NodeTable as node-table
+use Rattle.results.specs.NodeTable.{Mapped}
 use Rattle.results.specs.Cleaning.{cleaned-passes, cleaned-allele-call, cleaned-twice}
 use Rattle.results.specs.Joining.{Together, joined-rows, joined-passes}
-use Rattle.demands.specs.First.{no-rows-written, refused-cleaning, refused-joining}
-use Rattle.demands.specs.Histories.{Lent, Call, joins, cleans, tidied, untouched, NotRefused}
+use Rattle.demands.specs.First as first
+use Rattle.demands.specs.Listed.{file-shown}
+use Rattle.demands.specs.Histories.{Lent, LentJoin, Call, joins, cleans, tidied, untouched, NotRefused}
 use Rattle.demands.specs.Third.{YoungBatches, last-tables-equal}
 
--- ---- 1. "a refusal gives its number and its row, and no cell of ours is altered"
--- (That every input is taken, with no crash and no endless run, is what the checker proves of every function of the code.)
+-- ---- 1. "The cleaner, the join and the file reader take every input there is .. a refusal gives its number and its row, and no cell of ours is altered."
+-- That every input is taken, with no crash and no endless run, is what the checker proves of every function of the code.
+-- The number and the row are the answer's, by `check`, `cleanAnswer`, `joinAnswer` and the rest; a refused call gives them, 0 for all else, and the cells as they were.
 
-pub refusal-alters-no-cell : (m : Limits) (L : ℕ) (T : Tables) (S : List ℕ) (out : Tables) (outMap : List ℕ) → accepted (cleanAnswer stands m L T S out outMap) ≡ false →
-    cleaning stands m L T S out outMap ≡ record { answer = cleanAnswer stands m L T S out outMap; counts = no-rows-written; cells = out; map = outMap }
-refusal-alters-no-cell = refused-cleaning stands
+module _ (m : Limits) (L : ℕ) (T : Tables) (S : List ℕ) (out : Tables) (outMap : List ℕ) where
+  pub refused-cleaning-alters-no-cell : (cells : ℕ) → accepted (cleanAnswer stands m L T S out outMap cells) ≡ false →
+      cleaning stands m L T S out outMap cells ≡ record { answer = cleanAnswer stands m L T S out outMap cells; counts = no-rows-written; cells = out; map = outMap }
+  refused-cleaning-alters-no-cell = first.refused-cleaning stands m L T S out outMap
 
-pub refused-join-alters-no-cell : (m : Limits) (L : ℕ) (T : Tables) (B : BatchTables) (out : Tables) → accepted (joinAnswer m L T B out) ≡ false →
-    joining m L T B out ≡ record { answer = joinAnswer m L T B out; counts = no-rows-written; cells = out }
-refused-join-alters-no-cell = refused-joining
+  -- called from C: the block too
+  pub refused-clean-call-alters-no-cell : (block : List ℕ) → accepted (cleanAnswer stands m L T S out outMap (length block)) ≡ false →
+      cleanCall stands m L T S out outMap block ≡ record { code = packed (cleanAnswer stands m L T S out outMap (length block)); cells = out; map = outMap; block = block }
+  refused-clean-call-alters-no-cell = first.refused-clean-call stands m L T S out outMap
+
+module _ (m : Limits) (L : ℕ) (T : Tables) (B : BatchTables) (out : Tables) where
+  pub refused-join-alters-no-cell : (cells : ℕ) → accepted (joinAnswer m L T B out cells) ≡ false →
+      joining m L T B out cells ≡ record { answer = joinAnswer m L T B out cells; counts = no-rows-written; cells = out }
+  refused-join-alters-no-cell = first.refused-joining m L T B out
+
+  pub refused-join-call-alters-no-cell : (block : List ℕ) → accepted (joinAnswer m L T B out (length block)) ≡ false →
+      joinCall m L T B out block ≡ record { code = packed (joinAnswer m L T B out (length block)); cells = out; block = block }
+  refused-join-call-alters-no-cell = first.refused-join-call m L T B out
+
+-- the file reader, the writer; a row field has 2 bytes
+pub refused-reading-alters-no-cell : (m : Limits) (file : List ℕ) (out : Tables) (listOut : List ℕ) → accepted (reading 2 m file out listOut .answer) ≡ false →
+    reading 2 m file out listOut ≡ record { answer = reading 2 m file out listOut .answer; len = 0; rows = no-rows-written; listed = 0; cells = out; samples = listOut }
+refused-reading-alters-no-cell = first.refused-reading 2
+
+pub refused-writing-alters-no-byte : (m : Limits) (L : ℕ) (T : Tables) (S out : List ℕ) → accepted (writeAnswer 2 m L T S (length out)) ≡ false →
+    writing 2 m L T S out ≡ record { answer = writeAnswer 2 m L T S (length out); bytes = 0; cells = out }
+refused-writing-alters-no-byte = first.refused-writing 2
+
+-- the check and the allele call are lent no cell to write: the one gives a number and a row (`check`), the other a state too
+pub refused-allele-gives-no-state : (m : Limits) (L : ℕ) (T : Tables) (site birth : ℕ) → accepted (alleleAnswer m L T site birth) ≡ false → allele m L T site birth ≡ record { answer = alleleAnswer m L T site birth; state = 0 }
+refused-allele-gives-no-state = first.refused-allele
 
 -- ---- 2. "What a cleaning gives is what the published method defines"
 
 -- a cleaning that is not refused, of columns of u32
-module _ (m : Limits) (L : ℕ) (T : Tables) (S : List ℕ) (out : Tables) (outMap : List ℕ) (not-refused : cleanAnswer stands m L T S out outMap ≡ done) (u32 : Young (T .nodes)) where
-  -- "at each position every sample, every place where sampled lineages meet, the links between them and nothing more"
-  pub samples-and-meetings : (x : ℕ) → x < L → Induced (treeAt L T x) (treeAt L (cleaned stands L T S) x) S
-  samples-and-meetings = induced-subtrees m L T S out outMap (of-done (cleanAnswer stands m L T S out outMap) not-refused) u32
+module _ (m : Limits) (L : ℕ) (T : Tables) (S : List ℕ) (out : Tables) (outMap : List ℕ) (cells : ℕ) (not-refused : cleanAnswer stands m L T S out outMap cells ≡ done) (u32 : Young (T .nodes)) where
+  taken : Accepted (cleanAnswer stands m L T S out outMap cells)
+  taken = of-done (cleanAnswer stands m L T S out outMap cells) not-refused
 
+  -- what it gives are the tables `cleaned` and the map `nodeMap`, at the front of the cells lent for them, of which all others keep their values
+  pub gives : cleaning stands m L T S out outMap cells ≡ record { answer = done; counts = rowsIn (cleaned stands L T S); cells = putAll (cleaned stands L T S) out; map = put (nodeMap stands L T S) outMap }
+  unfolding cleaning
+  gives = ap (λ (a : Answer). cleanEnd a (cleaned stands L T S) (nodeMap stands L T S) out outMap) not-refused ∙ clean-done (cleaned stands L T S) (nodeMap stands L T S) out outMap
+
+  -- "at each position every sample, every place where sampled lineages meet, the links between them and nothing more":
+  -- the tree at x, read off the output, is the one that the samples induce in the input's tree at x,
+  pub samples-and-meetings : (x : ℕ) → x < L → Induced (treeAt L T x) (treeAt L (cleaned stands L T S) x) S
+  samples-and-meetings = induced-subtrees m L T S out outMap cells taken u32
+
+  -- with nothing between,
   pub nothing-between : (x : ℕ) → x < L → NoUnary (treeAt L (cleaned stands L T S) x) S
-  nothing-between = no-unary-vertices m L T S out outMap (of-done (cleanAnswer stands m L T S out outMap) not-refused) u32
+  nothing-between = no-unary-vertices m L T S out outMap cells taken u32
+
+  -- the first rows of the node table are the samples in list order, so that every sample is an output node,
+  pub samples-first : take (length S) (cleaned stands L T S .nodes .birth) ≡ S
+  samples-first = node-table.samples-first stands stands-profile m L T S out outMap cells taken u32
+
+  pub every-sample : (s : ℕ) → In S s → mem s (cleaned stands L T S .nodes .birth) ≡ true
+  every-sample = node-table.sample-kept stands stands-profile m L T S out outMap cells taken u32
+
+  -- every place where two samples' lines meet is an output node, and they meet there in the output too,
+  pub every-meeting : (x : ℕ) → x < L → (s t b : ℕ) → In S s → In S t → Mrca (treeAt L T x) s t b → (mem b (cleaned stands L T S .nodes .birth) ≡ true) × Mrca (treeAt L (cleaned stands L T S) x) s t b
+  every-meeting = meeting-kept m L T S out outMap cells taken u32
+
+  -- no other node is,
+  pub no-other-node : (b : ℕ) → mem b (cleaned stands L T S .nodes .birth) ≡ true → (mem b S ≡ true) ⊎ Meeting L T S b
+  no-other-node = only-meetings m L T S out outMap cells taken u32
+
+  -- no row stands twice, and each is a row of the input, whole
+  pub no-row-twice : Distinct (cleaned stands L T S .nodes .birth)
+  no-row-twice = node-table.rows-once stands stands-profile m L T S out outMap cells taken u32
+
+  pub rows-as-they-were : (i : ℕ) → i < length (cleaned stands L T S .nodes .birth) → (j : ℕ) × (j < length (T .nodes .birth)) × (nodeAt (T .nodes) j ≡ nodeAt (cleaned stands L T S .nodes) i)
+  rows-as-they-were = node-table.rows-copied stands stands-profile m L T S out outMap cells taken u32
+
+  -- 000's third and fourth property: what leads to no sample is gone, and touching edges are one
+  pub nodes-lead-to-samples : (b : ℕ) → mem b (cleaned stands L T S .nodes .birth) ≡ true → (x : ℕ) × (x < L) × Ancestral L T (cleaned stands L T S) S x b
+  nodes-lead-to-samples = only-ancestral-nodes m L T S out outMap cells taken u32
+
+  pub edges-lead-to-samples : All (λ (e : Edge). (x : ℕ) → e .left ≤ x → x < e .right → Ancestral L T (cleaned stands L T S) S x (e .child)) (recordOf L (cleaned stands L T S) .edges)
+  edges-lead-to-samples = only-ancestral-edges m L T S out outMap cells taken u32
+
+  pub edges-whole : (i j : ℕ) → i < length (cleaned stands L T S .edges .left) → j < length (cleaned stands L T S .edges .left) →
+      at (cleaned stands L T S .edges .parent) i ≡ at (cleaned stands L T S .edges .parent) j →
+      at (cleaned stands L T S .edges .child) i ≡ at (cleaned stands L T S .edges .child) j →
+      at (cleaned stands L T S .edges .right) i ≡ at (cleaned stands L T S .edges .left) j → ⊥
+  edges-whole = no-adjacent-edges m L T S out outMap cells taken u32
+
+  -- the sites are those of the input
+  pub sites-as-they-were : cleaned stands L T S .sites ≡ T .sites
+  sites-as-they-were = node-table.sites-same stands stands-profile m L T S out outMap cells taken u32
+
+  -- the map has a cell for each input row: the output row of the same birth, or none just where that birth is not in the output
+  pub map-of-every-row : length (nodeMap stands L T S) ≡ length (T .nodes .birth)
+  map-of-every-row = node-table.map-long stands stands-profile m L T S out outMap cells taken u32
+
+  pub map-by-birth : (i : ℕ) → i < length (T .nodes .birth) → Mapped (cleaned stands L T S .nodes .birth) (at (T .nodes .birth) i) (at (nodeMap stands L T S) i)
+  map-by-birth = node-table.map-rows stands stands-profile m L T S out outMap cells taken u32
 
   -- "with each sample carrying the allele that it had"
   pub allele-kept : (site sample : ℕ) → In S sample → allele m L (cleaned stands L T S) site sample ≡ allele m L T site sample
-  allele-kept = cleaned-allele-call stands stands-profile m L T S out outMap (of-done (cleanAnswer stands m L T S out outMap) not-refused) u32
+  allele-kept = cleaned-allele-call stands stands-profile m L T S out outMap cells taken u32
 
   -- cleaning twice changes nothing more, and cleaned tables pass the check
   pub cleaned-is-clean : cleaned stands L (cleaned stands L T S) S ≡ cleaned stands L T S
-  cleaned-is-clean = cleaned-twice stands stands-profile m L T S out outMap (of-done (cleanAnswer stands m L T S out outMap) not-refused) u32
+  cleaned-is-clean = cleaned-twice stands stands-profile m L T S out outMap cells taken u32
 
   pub cleaned-is-sound : (U : List ℕ) → length U ≤ m .samples → Distinct U → ((b : ℕ) → In U b → mem b (cleaned stands L T S .nodes .birth) ≡ true) → check m L (cleaned stands L T S) U ≡ done
-  cleaned-is-sound = cleaned-passes stands stands-profile m L T S out outMap (of-done (cleanAnswer stands m L T S out outMap) not-refused) u32
+  cleaned-is-sound = cleaned-passes stands stands-profile m L T S out outMap cells taken u32
 
 -- a join that is not refused
-module _ (m : Limits) (L : ℕ) (T : Tables) (B : BatchTables) (out : Tables) (not-refused : joinAnswer m L T B out ≡ done) where
+module _ (m : Limits) (L : ℕ) (T : Tables) (B : BatchTables) (out : Tables) (cells : ℕ) (not-refused : joinAnswer m L T B out cells ≡ done) where
+  pub join-gives : joining m L T B out cells ≡ record { answer = done; counts = rowsIn (joined L T B); cells = putAll (joined L T B) out }
+  unfolding joining
+  join-gives = ap (λ (a : Answer). joinEnd a (joined L T B) out) not-refused ∙ join-done (joined L T B) out
+
   -- "A join gives the record's rows with the batch's, and no others."
   pub rows-of-both : Together (recordOf L T) (batchOf B) (recordOf L (joined L T B))
-  rows-of-both = joined-rows m L T B out (of-done (joinAnswer m L T B out) not-refused)
+  rows-of-both = joined-rows m L T B out cells (of-done (joinAnswer m L T B out cells) not-refused)
 
   pub joined-is-sound : (U : List ℕ) → length U ≤ m .samples → Distinct U → ((b : ℕ) → In U b → mem b (joined L T B .nodes .birth) ≡ true) → check m L (joined L T B) U ≡ done
-  joined-is-sound = joined-passes m L T B out (of-done (joinAnswer m L T B out) not-refused)
+  joined-is-sound = joined-passes m L T B out cells (of-done (joinAnswer m L T B out cells) not-refused)
+
+-- "The file we store gives back the same tables": what was written is read as the same L, tables and samples, and refused for want of room only,
+pub file-gives-back-tables : (m : Limits) (L : ℕ) (T : Tables) (S : List ℕ) (room : ℕ) → L < 256 ^ 4 → Cells T S → accepted (writeAnswer 2 m L T S room) ≡ true →
+    (out : Tables) (listOut : List ℕ) → reading 2 m (written 2 m L T S) out listOut ≡ handed (roomAnswer m T S out listOut) L T S out listOut
+file-gives-back-tables = read-written 2
+
+-- "and those tables the same file": what was read is written as the same bytes, and refused for want of room only
+pub tables-give-back-file : (m : Limits) (file : List ℕ) (out : Tables) (listOut : List ℕ) → Bytes file → accepted (reading 2 m file out listOut .answer) ≡ true →
+    (lent : List ℕ) → writing 2 m (number 4 file 2) (tablesIn (found 2 m file)) (samplesIn (found 2 m file)) lent ≡ laid (refuse (ltb (length lent) (length file)) 13 7 done) file lent
+tables-give-back-file = written-read 2
+
+-- the listing is the cleaning: of a file that is read and cleaned the program prints L, the cleaned tables and the map
+pub listing-is-cleaning : (file : List ℕ) → Accepted (reading 2 limits file blank (zeros (limits .samples)) .answer) →
+    cleanAnswer stands limits (number 4 file 2) (tablesIn (found 2 limits file)) (samplesIn (found 2 limits file)) blank (zeros (limits .nodes)) 4 ≡ done →
+    shown file ≡ listed (number 4 file 2) (cleaned stands (number 4 file 2) (tablesIn (found 2 limits file)) (samplesIn (found 2 limits file))) (nodeMap stands (number 4 file 2) (tablesIn (found 2 limits file)) (samplesIn (found 2 limits file)))
+listing-is-cleaning = file-shown
 
 -- ---- 3. "Clean after any batches you like and then at the end, or only at the end: the last four tables are equal, row for row.
 -- This holds if no call is refused, and if each cleaning lists every fish then in the record that a later batch or a later sample list names."
+-- Calls from C are in it: each call says how many cells its block has, and one that is not refused has four or more.
 
 pub demand-3 : (m : Limits) (L : ℕ) (calls : List Call) (last : List ℕ) (lent-tidied lent-untouched : Lent) (start : Tables) → Young (start .nodes) → YoungBatches calls →
     NotRefused stands m L calls last lent-tidied lent-untouched start start →
@@ -75,7 +193,7 @@ pub demand-3 : (m : Limits) (L : ℕ) (calls : List Call) (last : List ℕ) (len
 demand-3 m L = last-tables-equal stands stands-profile m L
 
 -- the same for one cleaning before one batch: S lists every fish of the record that the batch or the last list names
-pub one-step : (m : Limits) (L : ℕ) (T : Tables) (B : BatchTables) (S last : List ℕ) (lent : Lent) (out-tidied out-untouched : Tables) (lent-tidied lent-untouched : Lent) → Young (T .nodes) → Young (B .nodes) →
-    NotRefused stands m L (cleans S lent ∷ joins B out-tidied out-untouched ∷ []) last lent-tidied lent-untouched T T →
+pub one-step : (m : Limits) (L : ℕ) (T : Tables) (B : BatchTables) (S last : List ℕ) (lent : Lent) (join-tidied join-untouched : LentJoin) (lent-tidied lent-untouched : Lent) → Young (T .nodes) → Young (B .nodes) →
+    NotRefused stands m L (cleans S lent ∷ joins B join-tidied join-untouched ∷ []) last lent-tidied lent-untouched T T →
     cleaned stands L (joined L (cleaned stands L T S) B) last ≡ cleaned stands L (joined L T B) last
 one-step m L T B S last lent o p q r y z a = demand-3 m L (cleans S lent ∷ joins B o p ∷ []) last q r T y (z, Prim.tt) a

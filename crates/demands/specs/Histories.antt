@@ -11,14 +11,20 @@ use Rattle.meaning.specs.Answer.{Limits, done}
 use Rattle.meaning.specs.Clean.{cleaned, cleanAnswer}
 use Rattle.meaning.specs.Join.{BatchTables, joined, joinAnswer}
 
--- what is lent for a result: tables 1 to 4 and the node map
+-- what is lent for a cleaning: tables 1 to 4, the node map, and from C a block of so many cells (a call that lends none is as one with four)
 pub record Lent : Type 0 where
   pub out : Tables
   pub map : List ℕ
+  pub cells : ℕ
+
+-- and for a join, which has no map
+pub record LentJoin : Type 0 where
+  pub out : Tables
+  pub cells : ℕ
 
 -- a batch is joined, in both histories, each with output lent to it; or the one history is cleaned for a list of samples
 pub data Call : Type 0 where
-  joins : BatchTables → Tables → Tables → Call
+  joins : BatchTables → LentJoin → LentJoin → Call
   cleans : List ℕ → Lent → Call
 
 -- the batch has the birth number b in one of its columns that name fish
@@ -50,13 +56,13 @@ module _ (rule : Rules) (m : Limits) (L : ℕ) where
   -- T and P are the tables of the two histories so far, and o and p what is lent to their last cleanings
   abbrev pub NotRefused : List Call → List ℕ → Lent → Lent → Tables → Tables → Type 0
   NotRefused [] last o p T P =
-      (cleanAnswer rule m L T last (o .out) (o .map) ≡ done)
-      × (cleanAnswer rule m L P last (p .out) (p .map) ≡ done)
+      (cleanAnswer rule m L T last (o .out) (o .map) (o .cells) ≡ done)
+      × (cleanAnswer rule m L P last (p .out) (p .map) (p .cells) ≡ done)
   NotRefused (joins B q r ∷ l) last o p T P =
-      (joinAnswer m L T B q ≡ done)
-      × (joinAnswer m L P B r ≡ done)
+      (joinAnswer m L T B (q .out) (q .cells) ≡ done)
+      × (joinAnswer m L P B (r .out) (r .cells) ≡ done)
       × NotRefused l last o p (joined L T B) (joined L P B)
   NotRefused (cleans S q ∷ l) last o p T P =
-      (cleanAnswer rule m L T S (q .out) (q .map) ≡ done)
+      (cleanAnswer rule m L T S (q .out) (q .map) (q .cells) ≡ done)
       × ((b : ℕ) → mem b (T .nodes .birth) ≡ true → NamedLater l last b → mem b S ≡ true)
       × NotRefused l last o p (cleaned rule L T S) P

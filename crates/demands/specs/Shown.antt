@@ -15,7 +15,7 @@ use Rattle.meaning.specs.Join.{BatchTables, joined, joinAnswer}
 use Rattle.meaning.specs.Listing.{listing}
 use Rattle.laws.specs.Bools.{clash}
 use Rattle.laws.specs.Members.{mem-cases, mem-nil}
-use Rattle.demands.specs.Histories.{Lent, Call, joins, cleans, Names, as-parent, as-child, as-mutated, NamedLater, tidied, untouched, NotRefused}
+use Rattle.demands.specs.Histories.{Lent, LentJoin, Call, joins, cleans, Names, as-parent, as-child, as-mutated, NamedLater, tidied, untouched, NotRefused}
 
 -- room for 16 rows in every table
 abbrev cells : List ℕ
@@ -30,7 +30,10 @@ room = record {
 }
 
 abbrev pub lent : Lent
-lent = record { out = room; map = cells }
+lent = record { out = room; map = cells; cells = 4 }
+
+abbrev pub lent-join : LentJoin
+lent-join = record { out = room; cells = 4 }
 
 -- 601 is born of 401 alone, 602 of 401 and 301
 abbrev pub spawn : BatchTables
@@ -46,13 +49,13 @@ listed = 501 ∷ 401 ∷ 301 ∷ []
 
 -- clean for these, join the batch, and clean at the end for 601, 602 and 501
 abbrev pub story : List Call
-story = cleans listed lent ∷ joins spawn room room ∷ []
+story = cleans listed lent ∷ joins spawn lent-join lent-join ∷ []
 
 abbrev pub last : List ℕ
 last = 601 ∷ 602 ∷ 501 ∷ []
 
 -- no number of the list but these is a fish of the listing
-only : (b : ℕ) → mem b (listing .nodes .birth) ≡ true → NamedLater (joins spawn room room ∷ []) last b → mem b listed ≡ true
+only : (b : ℕ) → mem b (listing .nodes .birth) ≡ true → NamedLater (joins spawn lent-join lent-join ∷ []) last b → mem b listed ≡ true
 only b m (inl (as-parent h)) = ⊎-elim
     (λ (e : b ≡ 401). rw e (unfold mem in refl))
     (λ (h : mem b (401 ∷ 301 ∷ []) ≡ true). ⊎-elim

@@ -79,41 +79,41 @@ module _ (rule : Rules) (pr : Profile rule) (m : Limits) (L : ℕ) where
   -- what the law of histories calls named is named
   named : (l : List Call) (last : List ℕ) (o p : Lent) (T P : Tables) → NotRefused rule m L l last o p T P → (b : ℕ) → run.Names (calls.meant (plainly l)) last b → NamedLater l last b
   named [] last o p T P a b h = h
-  named (joins B q r ∷ l) last o p T P a b (inl h) = inl (as-parent (parent-named B (join-tells m L T B q (of-done (joinAnswer m L T B q) (a .0)) .batch .shape .parents) b h))
+  named (joins B q r ∷ l) last o p T P a b (inl h) = inl (as-parent (parent-named B (join-tells m L T B (q .out) (q .cells) (of-done (joinAnswer m L T B (q .out) (q .cells)) (a .0)) .batch .shape .parents) b h))
   named (joins B q r ∷ l) last o p T P a b (inr h) = inr (named l last o p (joined L T B) (joined L P B) (a .2) b h)
   named (cleans S q ∷ l) last o p T P a b (inl h) = inl h
   named (cleans S q ∷ l) last o p T P a b (inr h) = inr (named l last o p (cleaned rule L T S) P (a .2) b h)
 
   -- the births of the record are the column of births
-  column : (T : Tables) (S : List ℕ) (q : Lent) → cleanAnswer rule m L T S (q .out) (q .map) ≡ done → births (recordOf L T .nodes) ≡ T .nodes .birth
+  column : (T : Tables) (S : List ℕ) (q : Lent) → cleanAnswer rule m L T S (q .out) (q .map) (q .cells) ≡ done → births (recordOf L T .nodes) ≡ T .nodes .birth
   unfolding recordOf
-  column T S q a = births-of (T .nodes) (clean-tells rule m L T S (q .out) (q .map) (of-done (cleanAnswer rule m L T S (q .out) (q .map)) a) .sound .shape .births)
+  column T S q a = births-of (T .nodes) (clean-tells rule m L T S (q .out) (q .map) (q .cells) (of-done (cleanAnswer rule m L T S (q .out) (q .map) (q .cells)) a) .sound .shape .births)
 
   accepted : (l : List Call) (last : List ℕ) (o p : Lent) (T P : Tables) → Young (T .nodes) → Young (P .nodes) → YoungBatches l → NotRefused rule m L l last o p T P → calls.AcceptedT L rule (plainly l) last T P
   accepted [] last o p T P y z w a = (
-    clean-accepted rule m L T last (o .out) (o .map) (of-done (cleanAnswer rule m L T last (o .out) (o .map)) (a .0)) y,
-    clean-accepted rule m L P last (p .out) (p .map) (of-done (cleanAnswer rule m L P last (p .out) (p .map)) (a .1)) z,
+    clean-accepted rule m L T last (o .out) (o .map) (o .cells) (of-done (cleanAnswer rule m L T last (o .out) (o .map) (o .cells)) (a .0)) y,
+    clean-accepted rule m L P last (p .out) (p .map) (p .cells) (of-done (cleanAnswer rule m L P last (p .out) (p .map) (p .cells)) (a .1)) z,
   )
   accepted (joins B q r ∷ l) last o p T P y z w a =
-      let f : Accepted (joinAnswer m L T B q) = of-done (joinAnswer m L T B q) (a .0) in
-      let g : Accepted (joinAnswer m L P B r) = of-done (joinAnswer m L P B r) (a .1) in (
-        join-good m L T B q f y,
-        join-good m L P B r g z,
-        join-accepted m L T B q f (w .0),
-        join-accepted m L P B r g (w .0),
+      let f : Accepted (joinAnswer m L T B (q .out) (q .cells)) = of-done (joinAnswer m L T B (q .out) (q .cells)) (a .0) in
+      let g : Accepted (joinAnswer m L P B (r .out) (r .cells)) = of-done (joinAnswer m L P B (r .out) (r .cells)) (a .1) in (
+        join-good m L T B (q .out) (q .cells) f y,
+        join-good m L P B (r .out) (r .cells) g z,
+        join-accepted m L T B (q .out) (q .cells) f (w .0),
+        join-accepted m L P B (r .out) (r .cells) g (w .0),
         accepted l last o p (joined L T B) (joined L P B) (young-joined L T B y (w .0)) (young-joined L P B z (w .0)) (w .1) (a .2),
       )
   accepted (cleans S q ∷ l) last o p T P y z w a =
-      let c : CleanOk (recordOf L T) S = clean-accepted rule m L T S (q .out) (q .map) (of-done (cleanAnswer rule m L T S (q .out) (q .map)) (a .0)) y in (
+      let c : CleanOk (recordOf L T) S = clean-accepted rule m L T S (q .out) (q .map) (q .cells) (of-done (cleanAnswer rule m L T S (q .out) (q .map) (q .cells)) (a .0)) y in (
         c,
         (λ b i h. a .1 b (ap (mem b) (sym (column T S q (a .0))) ∙ i) (named l last o p (cleaned rule L T S) P (a .2) b h)),
         accepted l last o p (cleaned rule L T S) P (young-cleaned rule L T S (c .good)) z w (a .2),
       )
 
   start-closed : (l : List Call) (last : List ℕ) (o p : Lent) (T P : Tables) → NotRefused rule m L l last o p T P → Closed (recordOf L T)
-  start-closed [] last o p T P a = clean-closed rule m L T last (o .out) (o .map) (of-done (cleanAnswer rule m L T last (o .out) (o .map)) (a .0))
-  start-closed (joins B q r ∷ l) last o p T P a = join-closed m L T B q (of-done (joinAnswer m L T B q) (a .0))
-  start-closed (cleans S q ∷ l) last o p T P a = clean-closed rule m L T S (q .out) (q .map) (of-done (cleanAnswer rule m L T S (q .out) (q .map)) (a .0))
+  start-closed [] last o p T P a = clean-closed rule m L T last (o .out) (o .map) (o .cells) (of-done (cleanAnswer rule m L T last (o .out) (o .map) (o .cells)) (a .0))
+  start-closed (joins B q r ∷ l) last o p T P a = join-closed m L T B (q .out) (q .cells) (of-done (joinAnswer m L T B (q .out) (q .cells)) (a .0))
+  start-closed (cleans S q ∷ l) last o p T P a = clean-closed rule m L T S (q .out) (q .map) (q .cells) (of-done (cleanAnswer rule m L T S (q .out) (q .map) (q .cells)) (a .0))
 
   same-run : (l : List Call) (T : Tables) → calls.runT L rule (plainly l) T ≡ tidied rule m L l T
   same-run [] T = refl

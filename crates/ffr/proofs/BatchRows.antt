@@ -6,9 +6,8 @@ use native.Mathlib.Omega.{arith}
 use lib.ListN.{length}
 use Rattle.meaning.specs.Rows.{Tables}
 use Rattle.meaning.specs.Answer.{Answer, limits, done, ragged}
-use Rattle.meaning.specs.Lent.{fitThen}
-use Rattle.meaning.specs.Join.{BatchTables, joined, batchShapes, batchSizes, batchRules}
-use Rattle.meaning.specs.Called.{blockThen, joinAnswerTo}
+use Rattle.meaning.specs.Lent.{fitThen, blockThen}
+use Rattle.meaning.specs.Join.{BatchTables, joined, batchShapes, batchSizes, batchRules, joinAnswer}
 use Rattle.ffr.proofs.Rows.{Low, low-if, low-row, low-even, low-few, low-fit, low-block, low-check}
 
 -- the rows of a batch keep to the limits
@@ -48,6 +47,6 @@ module _ (L : ℕ) (T : Tables) (B : BatchTables) (out : Tables) (cells : ℕ) w
   abbrev sizes-then : Answer
   sizes-then = batchSizes limits T B rules-then
 
-  pub low-join : Low (joinAnswerTo limits L T B out cells)
-  unfolding joinAnswerTo
+  pub low-join : Low (joinAnswer limits L T B out cells)
+  unfolding joinAnswer
   low-join = low-check L T (batchShapes B sizes-then) (λ _. low-batch-shapes B sizes-then (λ b. low-batch-sizes T B rules-then (λ s. low-batch-rules L T B fit-then b s (low-fit (joined L T B) out (blockThen cells done) (low-block cells)))))

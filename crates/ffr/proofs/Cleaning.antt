@@ -9,34 +9,33 @@ use Rattle.meaning.specs.declared.Refusal.{Refusal}
 use Rattle.meaning.specs.Rows.{Tables}
 use Rattle.meaning.specs.Forest.{stands}
 use Rattle.meaning.specs.Answer.{Answer, done, limits, accepted, refuse, lacks, put, left-by, refusalOf}
-use Rattle.meaning.specs.Lent.{fitThen}
+use Rattle.meaning.specs.Lent.{fitThen, blockThen}
 use Rattle.meaning.specs.Check.{checkAllThen}
-use Rattle.meaning.specs.Clean.{Outcome, cleaned, nodeMap}
-use Rattle.meaning.specs.Called.{blockThen, cleanAnswerTo, cleaningTo, packed, blockBy, CleanCall, cleanCall}
+use Rattle.meaning.specs.Clean.{Outcome, outcomeOf, cleaned, nodeMap, cleanAnswer, cleaning}
+use Rattle.meaning.specs.Called.{packed, blockBy, CleanCall, cleanCall}
 use Rattle.accepted.specs.Refusals.{Accepted, of-done, passed}
 use Rattle.accepted.specs.Checked.{all-sound-of}
-use Rattle.accepted.specs.Rooms.{Fits, fits-of}
-use Rattle.cleaner.specs.declared.Cleaned.{Cleaned}
-use Rattle.cleaner.specs.declared.Cleaned.the-variants as code
-use Rattle.cleaner.specs.Outcome.{outcomeOf}
+use Rattle.accepted.specs.Rooms.{fits-of, block-long}
+use Rattle.meaning.specs.declared.Tabled.{Tabled}
+use Rattle.meaning.specs.declared.Tabled.the-variants as code
 use Rattle.ffr.proofs.Rows.{low-clean}
-use Rattle.ffr.proofs.Packing.{Counted, counts-small, block-long, block-kept}
+use Rattle.ffr.proofs.Packing.{Counted, counts-small, block-kept}
 
 -- an outcome as C sees it
 abbrev callOf : Outcome → List ℕ → CleanCall
 callOf o block = record { code = packed (o .answer); cells = o .cells; map = o .map; block = blockBy (o .answer) (o .counts) block }
 
-module _ (L : ℕ) (T : Tables) (S : List ℕ) (out : Tables) (outMap block : List ℕ) (x : Cleaned) (cells : Tables) (nodemap : List ℕ) (e : outcomeOf x cells nodemap ≡ cleaningTo stands limits L T S out outMap (length block)) where
-  told : {y : Cleaned} → x ≡ y → outcomeOf y cells nodemap ≡ cleaningTo stands limits L T S out outMap (length block)
-  told q = ap (λ (z : Cleaned). outcomeOf z cells nodemap) (sym q) ∙ e
+module _ (L : ℕ) (T : Tables) (S : List ℕ) (out : Tables) (outMap block : List ℕ) (x : Tabled) (cells : Tables) (nodemap : List ℕ) (e : outcomeOf x cells nodemap ≡ cleaning stands limits L T S out outMap (length block)) where
+  told : {y : Tabled} → x ≡ y → outcomeOf y cells nodemap ≡ cleaning stands limits L T S out outMap (length block)
+  told q = ap (λ (z : Tabled). outcomeOf z cells nodemap) (sym q) ∙ e
 
-  called : {y : Cleaned} → x ≡ y → callOf (outcomeOf y cells nodemap) block ≡ cleanCall stands limits L T S out outMap block
+  called : {y : Tabled} → x ≡ y → callOf (outcomeOf y cells nodemap) block ≡ cleanCall stands limits L T S out outMap block
   unfolding cleanCall
   called q = ap (λ (o : Outcome). callOf o block) (told q)
 
   -- a refusal's row is a number of four bytes
   pub row-small : {r : Refusal} → x ≡ code.Refused r → refusalOf r .row < 4294967296
-  unfolding cleaningTo
+  unfolding cleaning
   row-small q = omega (arith, ap (λ (o : Outcome). o .answer .row) (told q), low-clean stands L T S out outMap (length block))
 
   pub call-refused : {r : Refusal} {v : ℕ} → x ≡ code.Refused r → v ≡ packed (refusalOf r) → _≡_ {A = CleanCall} (record { code = v; cells = cells; map = nodemap; block = block }) (cleanCall stands limits L T S out outMap block)
@@ -51,7 +50,7 @@ module _ (L : ℕ) (T : Tables) (S : List ℕ) (out : Tables) (outMap block : Li
 
   -- after 0 the counts are numbers of four bytes, and the block has cells for them
   pub counted : {n e s m : ℕ} → x ≡ code.Done n e s m → Counted (record { nodes = n; edges = e; sites = s; mutations = m }) (length block)
-  unfolding cleaningTo cleanAnswerTo
+  unfolding cleaning cleanAnswer
   counted q =
       let h : Accepted (checkAllThen limits L T S fit-then) = of-done (checkAllThen limits L T S fit-then) (sym (ap (λ (o : Outcome). o .answer) (told q))) in
       let p : _ = all-sound-of limits L T S fit-then h in

@@ -8,35 +8,34 @@ use lib.ListN.{length}
 use Rattle.meaning.specs.declared.Refusal.{Refusal}
 use Rattle.meaning.specs.Rows.{Tables}
 use Rattle.meaning.specs.Answer.{Answer, done, limits, accepted, put, left-by, refusalOf}
-use Rattle.meaning.specs.Lent.{fitThen}
+use Rattle.meaning.specs.Lent.{fitThen, blockThen}
 use Rattle.meaning.specs.Check.{checkThen}
-use Rattle.meaning.specs.Join.{BatchTables, JoinOutcome, joined, batchShapes, batchSizes, batchRules}
-use Rattle.meaning.specs.Called.{blockThen, joinAnswerTo, joiningTo, packed, blockBy, JoinCall, joinCall}
+use Rattle.meaning.specs.Join.{BatchTables, JoinOutcome, joinedOf, joined, batchShapes, batchSizes, batchRules, joinAnswer, joining}
+use Rattle.meaning.specs.Called.{packed, blockBy, JoinCall, joinCall}
 use Rattle.accepted.specs.Refusals.{Accepted, of-done}
 use Rattle.accepted.specs.Checked.{sound-of}
 use Rattle.accepted.specs.Batches.{batch-sound-of}
-use Rattle.accepted.specs.Rooms.{fits-of}
-use Rattle.joiner.specs.declared.Joined.{Joined}
-use Rattle.joiner.specs.declared.Joined.the-variants as code
-use Rattle.joiner.specs.Outcome.{joinedOf}
+use Rattle.accepted.specs.Rooms.{fits-of, block-long}
+use Rattle.meaning.specs.declared.Tabled.{Tabled}
+use Rattle.meaning.specs.declared.Tabled.the-variants as code
 use Rattle.ffr.proofs.BatchRows.{low-join}
-use Rattle.ffr.proofs.Packing.{Counted, counts-small, block-long, block-kept}
+use Rattle.ffr.proofs.Packing.{Counted, counts-small, block-kept}
 
 -- an outcome as C sees it
 abbrev callOf : JoinOutcome → List ℕ → JoinCall
 callOf o block = record { code = packed (o .answer); cells = o .cells; block = blockBy (o .answer) (o .counts) block }
 
-module _ (L : ℕ) (T : Tables) (B : BatchTables) (out : Tables) (block : List ℕ) (x : Joined) (cells : Tables) (e : joinedOf x cells ≡ joiningTo limits L T B out (length block)) where
-  told : {y : Joined} → x ≡ y → joinedOf y cells ≡ joiningTo limits L T B out (length block)
-  told q = ap (λ (z : Joined). joinedOf z cells) (sym q) ∙ e
+module _ (L : ℕ) (T : Tables) (B : BatchTables) (out : Tables) (block : List ℕ) (x : Tabled) (cells : Tables) (e : joinedOf x cells ≡ joining limits L T B out (length block)) where
+  told : {y : Tabled} → x ≡ y → joinedOf y cells ≡ joining limits L T B out (length block)
+  told q = ap (λ (z : Tabled). joinedOf z cells) (sym q) ∙ e
 
-  called : {y : Joined} → x ≡ y → callOf (joinedOf y cells) block ≡ joinCall limits L T B out block
+  called : {y : Tabled} → x ≡ y → callOf (joinedOf y cells) block ≡ joinCall limits L T B out block
   unfolding joinCall
   called q = ap (λ (o : JoinOutcome). callOf o block) (told q)
 
   -- a refusal's row is a number of four bytes
   pub row-small : {r : Refusal} → x ≡ code.Refused r → refusalOf r .row < 4294967296
-  unfolding joiningTo
+  unfolding joining
   row-small q = omega (arith, ap (λ (o : JoinOutcome). o .answer .row) (told q), low-join L T B out (length block))
 
   pub call-refused : {r : Refusal} {v : ℕ} → x ≡ code.Refused r → v ≡ packed (refusalOf r) → _≡_ {A = JoinCall} (record { code = v; cells = cells; block = block }) (joinCall limits L T B out block)
@@ -51,7 +50,7 @@ module _ (L : ℕ) (T : Tables) (B : BatchTables) (out : Tables) (block : List �
 
   -- after 0 the counts are numbers of four bytes, and the block has cells for them
   pub counted : {n e s m : ℕ} → x ≡ code.Done n e s m → Counted (record { nodes = n; edges = e; sites = s; mutations = m }) (length block)
-  unfolding joiningTo joinAnswerTo
+  unfolding joining joinAnswer
   counted q =
       let h : Accepted (checkThen limits L T batch-then) = of-done (checkThen limits L T batch-then) (sym (ap (λ (o : JoinOutcome). o .answer) (told q))) in
       let p : _ = sound-of limits L T batch-then h in

@@ -11,18 +11,10 @@ use Rattle.meaning.specs.declared.Refusal.{Refusal}
 use Rattle.meaning.specs.Rows.{Tables}
 use Rattle.meaning.specs.Answer.{Answer, answer, done, limits, accepted, put, left-by, refusalOf}
 use Rattle.meaning.specs.Lent.{Counts, countsBy}
-use Rattle.meaning.specs.Called.{packed, blockBy, blockThen}
+use Rattle.meaning.specs.Called.{blockBy}
 use Rattle.accepted.specs.Refusals.{Accepted, passed}
 use Rattle.accepted.specs.Rooms.{Fits}
 use Rattle.checker.proofs.After.{refused}
-
--- a refusal of another name has that name's row, and its code
-pub row-as : {x y : Refusal} → x ≡ y → refusalOf x .row < 4294967296 → refusalOf y .row < 4294967296
-row-as e h = omega (arith, ap (λ (z : Refusal). refusalOf z .row) e)
-
-pub packed-as : {x y : Refusal} {r : ℕ} → x ≡ y → r ≡ refusalOf y .number * 4294967296 + refusalOf y .row → r ≡ packed (refusalOf x)
-unfolding packed
-packed-as e h = h ∙ sym (ap (λ (z : Refusal). packed (refusalOf z)) e)
 
 -- four cells written one after the other
 pub four : (l : List ℕ) (a b c d : ℕ) → 4 ≤ length l → set (set (set (set l 0 a) 1 b) 2 c) 3 d ≡ put (a ∷ b ∷ c ∷ d ∷ []) l
@@ -45,11 +37,6 @@ pub record Counted (c : Counts) (cells : ℕ) : Type 0 where
   pub edges : c .edges < 4294967296
   pub sites : c .sites < 4294967296
   pub mutations : c .mutations < 4294967296
-
--- a block that is not short
-pub block-long : (cells : ℕ) → Accepted (blockThen cells done) → 4 ≤ cells
-unfolding blockThen
-block-long cells h = ltb-false cells 4 (passed (ltb cells 4) 13 7 done (omega arith) h .0)
 
 counts-of : (a : Answer) (new : Tables) → Accepted a → countsBy a new ≡ record { nodes = length (new .nodes .time); edges = length (new .edges .left); sites = length (new .sites .position); mutations = length (new .muts .site) }
 unfolding countsBy

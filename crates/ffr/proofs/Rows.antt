@@ -11,10 +11,9 @@ use Rattle.meaning.specs.Words.{lowest}
 use Rattle.meaning.specs.Rows.{Tables}
 use Rattle.meaning.specs.Forest.{Rules}
 use Rattle.meaning.specs.Answer.{Answer, limits, done, refuse, refuseRow, ragged, lacks}
-use Rattle.meaning.specs.Lent.{fitThen}
+use Rattle.meaning.specs.Lent.{fitThen, blockThen}
 use Rattle.meaning.specs.Check.{lengthBroken, shapes, sizes, treeRules, siteRules, rules, checkThen, sampleRules, checkAllThen}
-use Rattle.meaning.specs.Clean.{cleaned, nodeMap}
-use Rattle.meaning.specs.Called.{blockThen, cleanAnswerTo}
+use Rattle.meaning.specs.Clean.{cleaned, nodeMap, cleanAnswer}
 use Rattle.accepted.specs.Refusals.{of-done, pass, passed-even, first-of}
 use Rattle.accepted.specs.Checked.{Sized}
 
@@ -88,6 +87,6 @@ pub low-check : (L : ℕ) (T : Tables) (rest : Answer) → (Sized limits T → L
 unfolding checkThen
 low-check L T rest h = low-shapes T _ (λ b. low-sizes T _ (λ s. low-rules L T rest b s (h s)))
 
-pub low-clean : (rule : Rules) (L : ℕ) (T : Tables) (S : List ℕ) (out : Tables) (outMap : List ℕ) (cells : ℕ) → Low (cleanAnswerTo rule limits L T S out outMap cells)
-unfolding cleanAnswerTo checkAllThen
+pub low-clean : (rule : Rules) (L : ℕ) (T : Tables) (S : List ℕ) (out : Tables) (outMap : List ℕ) (cells : ℕ) → Low (cleanAnswer rule limits L T S out outMap cells)
+unfolding cleanAnswer checkAllThen
 low-clean rule L T S out outMap cells = low-shapes T _ (λ b. low-sizes T _ (λ s. low-few (limits .samples) (length S) 2 5 _ (omega arith) (λ k. low-rules L T _ b s (low-samples (T .nodes .birth) S _ (omega (arith, k)) (low-fit (cleaned rule L T S) out _ (low-if (lacks (limits .nodes) (outMap ∷ []) (length (nodeMap rule L T S))) 13 6 _ (omega arith) (λ _. low-block cells)))))))

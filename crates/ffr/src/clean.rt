@@ -4,7 +4,7 @@ ghost use Rattle.meaning.specs.Forest.{stands};
 ghost use Rattle.meaning.specs.Answer.{limits};
 ghost use Rattle.meaning.specs.Called.{CleanCall, cleanCall};
 use crate::pack;
-use cleaner::Cleaned;
+use meaning::Tabled;
 
 // The answer's number times 2^32 plus its row; after 0 the rows written in tables 1 to 4 stand in the block.
 #[no_mangle]
@@ -66,8 +66,8 @@ pub extern "C" fn ffr_clean(
         out_map,
         block.len(),
     ) {
-        Cleaned::Refused(x) => pack::pack(x),
-        Cleaned::Done {
+        Tabled::Refused(x) => pack::pack(x),
+        Tabled::Done {
             nodes,
             edges,
             sites,

@@ -3,7 +3,7 @@ ghost use mathlib.Core.Path.{_≡_};
 ghost use Rattle.meaning.specs.Answer.{limits};
 ghost use Rattle.meaning.specs.Called.{JoinCall, joinCall};
 use crate::pack;
-use joiner::Joined;
+use meaning::Tabled;
 
 // The answer's number times 2^32 plus its row; after 0 the rows written in tables 1 to 4 stand in the block.
 #[no_mangle]
@@ -79,8 +79,8 @@ pub extern "C" fn ffr_join(
         out_derived,
         block.len(),
     ) {
-        Joined::Refused(x) => pack::pack(x),
-        Joined::Done {
+        Tabled::Refused(x) => pack::pack(x),
+        Tabled::Done {
             nodes,
             edges,
             sites,

@@ -1,7 +1,6 @@
 // The two calls, each from a record into new columns and back into the record.
 use crate::record;
-use cleaner::Cleaned;
-use joiner::Joined;
+use meaning::Tabled;
 
 const NODES: usize = meaning::NodeTable::MOST;
 
@@ -30,28 +29,10 @@ fn refused() -> Seen {
     }
 }
 
-fn of_join(r: Joined) -> Seen {
+fn seen(r: Tabled) -> Seen {
     match r {
-        Joined::Refused(_) => refused(),
-        Joined::Done {
-            nodes,
-            edges,
-            sites,
-            mutations,
-        } => Seen {
-            done: true,
-            nodes,
-            edges,
-            sites,
-            mutations,
-        },
-    }
-}
-
-fn of_clean(r: Cleaned) -> Seen {
-    match r {
-        Cleaned::Refused(_) => refused(),
-        Cleaned::Done {
+        Tabled::Refused(_) => refused(),
+        Tabled::Done {
             nodes,
             edges,
             sites,
@@ -85,7 +66,7 @@ fn join_columns(
     out_node: &mut [u32],
     out_derived: &mut [u8],
 ) -> Seen {
-    of_join(joiner::join(
+    seen(joiner::join(
         cases::get(w, 0),
         cases::column(rec, 0, 0),
         cases::column(rec, 0, 1),
@@ -140,7 +121,7 @@ fn clean_columns(
     out_derived: &mut [u8],
     out_map: &mut [u32],
 ) -> Seen {
-    of_clean(cleaner::clean(
+    seen(cleaner::clean(
         cases::get(w, 0),
         cases::column(rec, 0, 0),
         cases::column(rec, 0, 1),

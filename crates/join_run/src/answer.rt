@@ -1,6 +1,6 @@
 // Number, row and counts of a join's answer, and those that are due.
-use joiner::Joined;
 use meaning::Refusal;
+use meaning::Tabled;
 
 // Where the answer due starts in a case's numbers.
 const ANSWER: usize = 1;
@@ -26,42 +26,15 @@ fn refusal(number: u32, row: usize) -> Seen {
     }
 }
 
-// Number and row of a refusal of the batch; 99 for one that a join never gives.
-fn refused_batch(x: Refusal) -> Seen {
-    match x {
-        Refusal::NoRoom(t) => refusal(13, t),
-        Refusal::BatchRagged(t) => refusal(20, t),
-        Refusal::BatchTooMany(t) => refusal(21, t),
-        Refusal::BatchBirth(i) => refusal(22, i),
-        Refusal::BatchEdge(i) => refusal(23, i),
-        Refusal::BatchShared(i) => refusal(24, i),
-        Refusal::BatchMutation(i) => refusal(25, i),
-        Refusal::BatchAbove(i) => refusal(26, i),
-        _ => refusal(99, 0),
-    }
-}
-
-// Number and row of a refusal.
 fn refused(x: Refusal) -> Seen {
-    match x {
-        Refusal::Ragged(t) => refusal(1, t),
-        Refusal::TooMany(t) => refusal(2, t),
-        Refusal::Length => refusal(3, 0),
-        Refusal::BirthRepeated(i) => refusal(4, i),
-        Refusal::EdgeBroken(i) => refusal(5, i),
-        Refusal::EdgeOrder(i) => refusal(6, i),
-        Refusal::EdgeShared(i) => refusal(7, i),
-        Refusal::SiteBroken(i) => refusal(8, i),
-        Refusal::MutationBroken(i) => refusal(9, i),
-        Refusal::MutationAbove(i) => refusal(10, i),
-        _ => refused_batch(x),
-    }
+    let t = meaning::tell(x);
+    refusal(t.number, t.row)
 }
 
-pub fn answered(r: Joined) -> Seen {
+pub fn answered(r: Tabled) -> Seen {
     match r {
-        Joined::Refused(x) => refused(x),
-        Joined::Done {
+        Tabled::Refused(x) => refused(x),
+        Tabled::Done {
             nodes,
             edges,
             sites,

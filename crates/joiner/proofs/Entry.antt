@@ -12,11 +12,11 @@ use Rattle.meaning.specs.declared.Checked.the-variants as checked
 use Rattle.meaning.specs.Words.{lowest}
 use Rattle.meaning.specs.Rows.{Tables}
 use Rattle.meaning.specs.Answer.{Answer, answer, done, limits, refuse, refuseRow, accepted, refusalOf, checkedOf}
-use Rattle.meaning.specs.Lent.{fitThen, countsBy, cellsBy}
+use Rattle.meaning.specs.Lent.{no-rows-written, fitThen, blockThen, countsBy, cellsBy}
 use Rattle.meaning.specs.Check.{checkThen}
-use Rattle.meaning.specs.Join.{BatchTables, JoinOutcome, joined, batchShapes, batchSizes, batchRules}
-use Rattle.meaning.specs.Called.{blockThen, joiningTo}
+use Rattle.meaning.specs.Join.{BatchTables, JoinOutcome, joinEnd, joinFit, batchThen, joined, batchShapes, batchSizes, batchRules, joining}
 use Rattle.accepted.specs.Refusals.{of-done}
+use Rattle.accepted.specs.Endings.{join-refused}
 use Rattle.accepted.specs.Rooms.{Fits, fits-of}
 use Rattle.accepted.specs.Checked.{sound-of}
 use Rattle.accepted.specs.Batches.{batch-sound-of}
@@ -25,7 +25,7 @@ use Rattle.checker.proofs.After.{Hands, hands, after-sound, after-refused, tabl
 use Rattle.writing.specs.Room.{Needs, Lent, needsOf, lentBy, roomOf, roomAnswer, room-answer}
 use Rattle.joiner.specs.Joinable.{Joinable}
 use Rattle.joiner.specs.Room.{joinRoom}
-use Rattle.joiner.specs.Outcome.{nothing, ending, fitAnswer, afterChecks, checksThen, joining-by, ending-refused}
+use Rattle.joiner.specs.Outcome.{afterChecks, joining-by}
 use Rattle.joiner.proofs.Result.{nodes-count, edges-count, sites-count, muts-count}
 
 -- ---- each group hands on what comes after it
@@ -56,8 +56,8 @@ fit-on : (new out : Tables) (a rest : Answer) → fitThen limits new out (after 
 unfolding fitThen
 fit-on new out a rest = simp refuse-on
 
-checks-on : (L : ℕ) (T : Tables) (B : BatchTables) (a rest : Answer) → checksThen L T B (after a rest) ≡ after (checksThen L T B a) rest
-unfolding checksThen
+checks-on : (L : ℕ) (T : Tables) (B : BatchTables) (a rest : Answer) → batchThen limits L T B (after a rest) ≡ after (batchThen limits L T B a) rest
+unfolding batchThen
 checks-on L T B a rest =
     ap (λ x. checkThen limits L T (batchShapes B (batchSizes limits T B x))) (rules-on L T B a rest)
     ∙ ap (λ x. checkThen limits L T (batchShapes B x)) (sizes-on T B (batchRules L T B a) rest)
@@ -67,8 +67,8 @@ checks-on L T B a rest =
 -- ---- after the checks: the room
 
 -- 13 by numbers
-fit-room : (new out : Tables) (cells : ℕ) → fitAnswer new out cells ≡ joinRoom (needsOf new []) (lentBy out []) cells
-unfolding fitAnswer joinRoom
+fit-room : (new out : Tables) (cells : ℕ) → joinFit limits new out cells ≡ joinRoom (needsOf new []) (lentBy out []) cells
+unfolding joinFit joinRoom
 fit-room new out cells =
     ap (fitThen limits new out) (sym (after-sound (blockThen cells done)))
     ∙ fit-on new out done (blockThen cells done)
@@ -104,62 +104,62 @@ needsIn T B = record {
 }
 
 module _ (L : ℕ) (T : Tables) (B : BatchTables) (k : Joinable L T B) (out : Tables) (cells : ℕ) (t : ℕ) (e : roomOf t ≡ joinRoom (needsIn T B) (lentBy out []) cells) where
-  answer-is : fitAnswer (joined L T B) out cells ≡ roomOf t
+  answer-is : joinFit limits (joined L T B) out cells ≡ roomOf t
   answer-is =
       fit-room (joined L T B) out cells
       ∙ ap (λ (n : Needs). joinRoom n (lentBy out []) cells) (λ i. record { nodes = nodes-count L T B k i; edges = edges-count L T B k i; sites = sites-count L T B k i; mutations = muts-count L T B k i; rows = 0 })
       ∙ sym e
 
   -- a table or the block without room: nothing is written
-  pub stored-refused : (t ≡ 0 → ⊥) → record { answer = answer 13 t; counts = nothing; cells = out } ≡ afterChecks L T B out cells
+  pub stored-refused : (t ≡ 0 → ⊥) → record { answer = answer 13 t; counts = no-rows-written; cells = out } ≡ afterChecks L T B out cells
   unfolding afterChecks roomOf accepted
-  stored-refused z = sym (ap (λ (a : Answer). ending a (joined L T B) out) (answer-is ∙ named t z) ∙ ending-refused (answer 13 t) (joined L T B) out refl)
+  stored-refused z = sym (ap (λ (a : Answer). joinEnd a (joined L T B) out) (answer-is ∙ named t z) ∙ join-refused (answer 13 t) refl (joined L T B) out)
     where
       named : (t : ℕ) → (t ≡ 0 → ⊥) → roomOf t ≡ answer 13 t
       named zero z = absurd (z refl)
       named (suc t) z = refl
 
-  answer-done : t ≡ 0 → fitAnswer (joined L T B) out cells ≡ done
+  answer-done : t ≡ 0 → joinFit limits (joined L T B) out cells ≡ done
   unfolding roomOf
   answer-done z = answer-is ∙ ap roomOf z
 
   -- so the tables have room
   pub stored-fits : t ≡ 0 → Fits limits (joined L T B) out
-  unfolding fitAnswer
-  stored-fits z = fits-of limits (joined L T B) out (blockThen cells done) (of-done (fitAnswer (joined L T B) out cells) (answer-done z)) .0
+  unfolding joinFit
+  stored-fits z = fits-of limits (joined L T B) out (blockThen cells done) (of-done (joinFit limits (joined L T B) out cells) (answer-done z)) .0
 
   -- all fits: the result stands at the front
   pub stored-done : t ≡ 0 → (now : Tables) → now ≡ cellsBy done (joined L T B) out → record { answer = done; counts = record { nodes = length (T .nodes .time) + length (B .nodes .time); edges = length (T .edges .left) + length (B .edges .left); sites = length (T .sites .position); mutations = length (T .muts .site) + length (B .muts .site) }; cells = now } ≡ afterChecks L T B out cells
-  unfolding afterChecks ending countsBy accepted
+  unfolding afterChecks joinEnd countsBy accepted
   stored-done z now w = sym (
-      ap (λ (a : Answer). ending a (joined L T B) out) (answer-done z)
+      ap (λ (a : Answer). joinEnd a (joined L T B) out) (answer-done z)
       ∙ (λ i. record { answer = done; counts = record { nodes = nodes-count L T B k i; edges = edges-count L T B k i; sites = sites-count L T B k i; mutations = muts-count L T B k i }; cells = sym w i })
       )
 
 -- ---- the call
 
 module _ (L : ℕ) (T : Tables) (B : BatchTables) (c : Checked) (e : checkedOf c ≡ checkThen limits L T (batchShapes B (batchSizes limits T B (batchRules L T B done)))) where
-  hand : Hands (checksThen L T B)
-  hand = hands (checksThen L T B) (checks-on L T B)
+  hand : Hands (batchThen limits L T B)
+  hand = hands (batchThen limits L T B) (checks-on L T B)
 
-  found : checkedOf c ≡ checksThen L T B done
-  unfolding checksThen
+  found : checkedOf c ≡ batchThen limits L T B done
+  unfolding batchThen
   found = e
 
   -- what the checks do not refuse may be joined
   pub joinable : c ≡ checked.Sound → Joinable L T B
-  unfolding checksThen
+  unfolding batchThen
   joinable q =
-      let s : _ = sound-of limits L T (batchShapes B (batchSizes limits T B (batchRules L T B done))) (was-sound (checksThen L T B) hand c found q) in
+      let s : _ = sound-of limits L T (batchShapes B (batchSizes limits T B (batchRules L T B done))) (was-sound (batchThen limits L T B) hand c found q) in
       record { sound = s .0; batch = batch-sound-of limits L T B done (s .1) .0 }
 
   module _ (out : Tables) (cells : ℕ) where
-    pub call-refused : (r : Refusal) → c ≡ checked.Refused r → _≡_ {A = JoinOutcome} (record { answer = refusalOf r; counts = nothing; cells = out }) (joiningTo limits L T B out cells)
+    pub call-refused : (r : Refusal) → c ≡ checked.Refused r → _≡_ {A = JoinOutcome} (record { answer = refusalOf r; counts = no-rows-written; cells = out }) (joining limits L T B out cells)
     call-refused r q = sym (
-        joining-by L T B out cells (refusalOf r) (sym (stops (checksThen L T B) hand c found r q (fitAnswer (joined L T B) out cells)) ∙ ap checkedOf q)
-        ∙ ending-refused (refusalOf r) (joined L T B) out (refused r)
+        joining-by L T B out cells (refusalOf r) (sym (stops (batchThen limits L T B) hand c found r q (joinFit limits (joined L T B) out cells)) ∙ ap checkedOf q)
+        ∙ join-refused (refusalOf r) (refused r) (joined L T B) out
         )
 
-    pub call-done : c ≡ checked.Sound → (o : JoinOutcome) → o ≡ afterChecks L T B out cells → o ≡ joiningTo limits L T B out cells
+    pub call-done : c ≡ checked.Sound → (o : JoinOutcome) → o ≡ afterChecks L T B out cells → o ≡ joining limits L T B out cells
     unfolding afterChecks
-    call-done q o f = f ∙ sym (joining-by L T B out cells (fitAnswer (joined L T B) out cells) (goes-on (checksThen L T B) hand c found q (fitAnswer (joined L T B) out cells)))
+    call-done q o f = f ∙ sym (joining-by L T B out cells (joinFit limits (joined L T B) out cells) (goes-on (batchThen limits L T B) hand c found q (joinFit limits (joined L T B) out cells)))

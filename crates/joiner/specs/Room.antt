@@ -1,7 +1,7 @@
 -- 13 of a join by numbers alone: the rows of the result, the lengths of the columns lent for it, and the cells of the block.
 use Prim.Native.Nat.{ℕ}
 use Rattle.meaning.specs.Answer.{Answer, done}
-use Rattle.meaning.specs.Called.{blockThen}
+use Rattle.meaning.specs.Lent.{blockThen}
 use Rattle.checker.specs.Then.{after}
 use Rattle.writing.specs.Room.{Needs, Lent, roomAnswer}
 

@@ -1,9 +1,7 @@
 // Joining a batch: base and batch are checked, and all is written once it is known to fit.
 ghost use mathlib.Core.Path.{_≡_};
 ghost use Rattle.meaning.specs.Answer.{limits};
-ghost use Rattle.meaning.specs.Join.{joining};
-ghost use Rattle.meaning.specs.Called.{joiningTo};
-ghost use Rattle.joiner.specs.Outcome.{joinedOf};
+ghost use Rattle.meaning.specs.Join.{joinedOf, joining};
 
 pub mod checks; // 1 to 10 of the base, then 20 to 26 of the batch
 pub mod edges; // the edges in key order
@@ -11,18 +9,7 @@ pub mod mutations; // the mutations by site
 mod store;
 
 use meaning::Checked;
-use meaning::Refusal;
-
-// The answer of a join.
-pub enum Joined {
-    Done {
-        nodes: usize,
-        edges: usize,
-        sites: usize,
-        mutations: usize,
-    },
-    Refused(Refusal),
-}
+use meaning::Tabled;
 
 // Joining by a call that lends a block of so many cells for the row counts: under four, 13 with row 7.
 pub fn join_within(
@@ -59,8 +46,8 @@ pub fn join_within(
     out_node: &mut [u32],
     out_derived: &mut [u8],
     cells: usize,
-) -> Joined
-    ensures { λ r. ⌜ joinedOf r (record { nodes = record { time = now («out_time» .exit); birth = now («out_birth» .exit) }; edges = record { left = now («out_left» .exit); right = now («out_right» .exit); parent = now («out_parent» .exit); child = now («out_child» .exit) }; sites = record { position = now («out_position» .exit); ancestral = now («out_ancestral» .exit) }; muts = record { site = now («out_site» .exit); node = now («out_node» .exit); derived = now («out_derived» .exit) } }) ≡ joiningTo limits len (record { nodes = record { time = now (basetime .entry); birth = now (basebirth .entry) }; edges = record { left = now (baseleft .entry); right = now (baseright .entry); parent = now (baseparent .entry); child = now (basechild .entry) }; sites = record { position = now (position .entry); ancestral = now (ancestral .entry) }; muts = record { site = now (basesite .entry); node = now (basenode .entry); derived = now (basederived .entry) } }) (record { nodes = record { time = now (time .entry); birth = now (birth .entry) }; edges = record { left = now (left .entry); right = now (right .entry); parent = now (parent .entry); child = now (child .entry) }; muts = record { site = now (site .entry); node = now (node .entry); derived = now (derived .entry) } }) (record { nodes = record { time = now («out_time» .entry); birth = now («out_birth» .entry) }; edges = record { left = now («out_left» .entry); right = now («out_right» .entry); parent = now («out_parent» .entry); child = now («out_child» .entry) }; sites = record { position = now («out_position» .entry); ancestral = now («out_ancestral» .entry) }; muts = record { site = now («out_site» .entry); node = now («out_node» .entry); derived = now («out_derived» .entry) } }) cells ⌝ }
+) -> Tabled
+    ensures { λ r. ⌜ joinedOf r (record { nodes = record { time = now («out_time» .exit); birth = now («out_birth» .exit) }; edges = record { left = now («out_left» .exit); right = now («out_right» .exit); parent = now («out_parent» .exit); child = now («out_child» .exit) }; sites = record { position = now («out_position» .exit); ancestral = now («out_ancestral» .exit) }; muts = record { site = now («out_site» .exit); node = now («out_node» .exit); derived = now («out_derived» .exit) } }) ≡ joining limits len (record { nodes = record { time = now (basetime .entry); birth = now (basebirth .entry) }; edges = record { left = now (baseleft .entry); right = now (baseright .entry); parent = now (baseparent .entry); child = now (basechild .entry) }; sites = record { position = now (position .entry); ancestral = now (ancestral .entry) }; muts = record { site = now (basesite .entry); node = now (basenode .entry); derived = now (basederived .entry) } }) (record { nodes = record { time = now (time .entry); birth = now (birth .entry) }; edges = record { left = now (left .entry); right = now (right .entry); parent = now (parent .entry); child = now (child .entry) }; muts = record { site = now (site .entry); node = now (node .entry); derived = now (derived .entry) } }) (record { nodes = record { time = now («out_time» .entry); birth = now («out_birth» .entry) }; edges = record { left = now («out_left» .entry); right = now («out_right» .entry); parent = now («out_parent» .entry); child = now («out_child» .entry) }; sites = record { position = now («out_position» .entry); ancestral = now («out_ancestral» .entry) }; muts = record { site = now («out_site» .entry); node = now («out_node» .entry); derived = now («out_derived» .entry) } }) cells ⌝ }
 {
     match checks::check_join(
         len,
@@ -85,7 +72,7 @@ pub fn join_within(
         node,
         derived,
     ) {
-        Checked::Refused(r) => Joined::Refused(r),
+        Checked::Refused(r) => Tabled::Refused(r),
         Checked::Sound => store::store(
             len,
             basetime,
@@ -158,8 +145,8 @@ pub fn join(
     out_site: &mut [u32],
     out_node: &mut [u32],
     out_derived: &mut [u8],
-) -> Joined
-    ensures { λ r. ⌜ joinedOf r (record { nodes = record { time = now («out_time» .exit); birth = now («out_birth» .exit) }; edges = record { left = now («out_left» .exit); right = now («out_right» .exit); parent = now («out_parent» .exit); child = now («out_child» .exit) }; sites = record { position = now («out_position» .exit); ancestral = now («out_ancestral» .exit) }; muts = record { site = now («out_site» .exit); node = now («out_node» .exit); derived = now («out_derived» .exit) } }) ≡ joining limits len (record { nodes = record { time = now (basetime .entry); birth = now (basebirth .entry) }; edges = record { left = now (baseleft .entry); right = now (baseright .entry); parent = now (baseparent .entry); child = now (basechild .entry) }; sites = record { position = now (position .entry); ancestral = now (ancestral .entry) }; muts = record { site = now (basesite .entry); node = now (basenode .entry); derived = now (basederived .entry) } }) (record { nodes = record { time = now (time .entry); birth = now (birth .entry) }; edges = record { left = now (left .entry); right = now (right .entry); parent = now (parent .entry); child = now (child .entry) }; muts = record { site = now (site .entry); node = now (node .entry); derived = now (derived .entry) } }) (record { nodes = record { time = now («out_time» .entry); birth = now («out_birth» .entry) }; edges = record { left = now («out_left» .entry); right = now («out_right» .entry); parent = now («out_parent» .entry); child = now («out_child» .entry) }; sites = record { position = now («out_position» .entry); ancestral = now («out_ancestral» .entry) }; muts = record { site = now («out_site» .entry); node = now («out_node» .entry); derived = now («out_derived» .entry) } }) ⌝ }
+) -> Tabled
+    ensures { λ r. ⌜ joinedOf r (record { nodes = record { time = now («out_time» .exit); birth = now («out_birth» .exit) }; edges = record { left = now («out_left» .exit); right = now («out_right» .exit); parent = now («out_parent» .exit); child = now («out_child» .exit) }; sites = record { position = now («out_position» .exit); ancestral = now («out_ancestral» .exit) }; muts = record { site = now («out_site» .exit); node = now («out_node» .exit); derived = now («out_derived» .exit) } }) ≡ joining limits len (record { nodes = record { time = now (basetime .entry); birth = now (basebirth .entry) }; edges = record { left = now (baseleft .entry); right = now (baseright .entry); parent = now (baseparent .entry); child = now (basechild .entry) }; sites = record { position = now (position .entry); ancestral = now (ancestral .entry) }; muts = record { site = now (basesite .entry); node = now (basenode .entry); derived = now (basederived .entry) } }) (record { nodes = record { time = now (time .entry); birth = now (birth .entry) }; edges = record { left = now (left .entry); right = now (right .entry); parent = now (parent .entry); child = now (child .entry) }; muts = record { site = now (site .entry); node = now (node .entry); derived = now (derived .entry) } }) (record { nodes = record { time = now («out_time» .entry); birth = now («out_birth» .entry) }; edges = record { left = now («out_left» .entry); right = now («out_right» .entry); parent = now («out_parent» .entry); child = now («out_child» .entry) }; sites = record { position = now («out_position» .entry); ancestral = now («out_ancestral» .entry) }; muts = record { site = now («out_site» .entry); node = now («out_node» .entry); derived = now («out_derived» .entry) } }) 4 ⌝ }
 {
     join_within(
         len,

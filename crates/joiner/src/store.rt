@@ -5,15 +5,15 @@ ghost use Prim.Native.Nat.{_+_, _≤_};
 ghost use lib.ListN.{length};
 ghost use Rattle.meaning.specs.Answer.{done, limits, put};
 ghost use Rattle.meaning.specs.Lent.{cellsBy};
-ghost use Rattle.meaning.specs.Join.{joined};
+ghost use Rattle.meaning.specs.Join.{joinedOf, joined};
 ghost use Rattle.accepted.specs.Rooms.{Fits};
 ghost use Rattle.writing.specs.Room.{roomOf};
 ghost use Rattle.joiner.specs.Joinable.{Joinable};
-ghost use Rattle.joiner.specs.Outcome.{joinedOf, afterChecks};
+ghost use Rattle.joiner.specs.Outcome.{afterChecks};
 ghost use Rattle.joiner.specs.Room.{joinRoom};
-use crate::Joined;
 use meaning::Bytes;
 use meaning::Refusal;
+use meaning::Tabled;
 
 // The rows of a call's block, which has a count for each of tables 1 to 4.
 pub const COUNTS: usize = 4;
@@ -206,7 +206,7 @@ pub fn store(
     out_node: &mut [u32],
     out_derived: &mut [u8],
     cells: usize,
-) -> Joined
+) -> Tabled
     requires { ⌜ Joinable len (record { nodes = record { time = now basetime; birth = now basebirth }; edges = record { left = now baseleft; right = now baseright; parent = now baseparent; child = now basechild }; sites = record { position = now position; ancestral = now ancestral }; muts = record { site = now basesite; node = now basenode; derived = now basederived } }) (record { nodes = record { time = now time; birth = now birth }; edges = record { left = now left; right = now right; parent = now parent; child = now child }; muts = record { site = now site; node = now node; derived = now derived } }) ⌝ }
     ensures { λ r. ⌜ joinedOf r (record { nodes = record { time = now («out_time» .exit); birth = now («out_birth» .exit) }; edges = record { left = now («out_left» .exit); right = now («out_right» .exit); parent = now («out_parent» .exit); child = now («out_child» .exit) }; sites = record { position = now («out_position» .exit); ancestral = now («out_ancestral» .exit) }; muts = record { site = now («out_site» .exit); node = now («out_node» .exit); derived = now («out_derived» .exit) } }) ≡ afterChecks len (record { nodes = record { time = now (basetime .entry); birth = now (basebirth .entry) }; edges = record { left = now (baseleft .entry); right = now (baseright .entry); parent = now (baseparent .entry); child = now (basechild .entry) }; sites = record { position = now (position .entry); ancestral = now (ancestral .entry) }; muts = record { site = now (basesite .entry); node = now (basenode .entry); derived = now (basederived .entry) } }) (record { nodes = record { time = now (time .entry); birth = now (birth .entry) }; edges = record { left = now (left .entry); right = now (right .entry); parent = now (parent .entry); child = now (child .entry) }; muts = record { site = now (site .entry); node = now (node .entry); derived = now (derived .entry) } }) (record { nodes = record { time = now («out_time» .entry); birth = now («out_birth» .entry) }; edges = record { left = now («out_left» .entry); right = now («out_right» .entry); parent = now («out_parent» .entry); child = now («out_child» .entry) }; sites = record { position = now («out_position» .entry); ancestral = now («out_ancestral» .entry) }; muts = record { site = now («out_site» .entry); node = now («out_node» .entry); derived = now («out_derived» .entry) } }) cells ⌝ }
 {
@@ -232,7 +232,7 @@ pub fn store(
         cells,
     );
     if t != 0 {
-        return Joined::Refused(Refusal::NoRoom(t));
+        return Tabled::Refused(Refusal::NoRoom(t));
     }
     write_all(
         len,
@@ -268,7 +268,7 @@ pub fn store(
         out_node,
         out_derived,
     );
-    Joined::Done {
+    Tabled::Done {
         nodes: nodes,
         edges: edges,
         sites: position.len(),

@@ -7,7 +7,7 @@ use lib.ListN.{length, take, drop, set}
 use lib.Seq.{take-at, drop-at}
 use Rattle.meaning.specs.Words.{at, indexOf}
 use Rattle.meaning.specs.Answer.{put}
-use Rattle.laws.specs.Members.{at-mem}
+use Rattle.laws.specs.Members.{at-mem, at-map}
 use Rattle.laws.specs.Facts.{All}
 use Rattle.order.specs.Order.{Inside}
 use Rattle.byrows.specs.Rows.{sampleRows}
@@ -39,11 +39,6 @@ put-past l old out k q e = ap (drop k) e ∙ drop-at l (drop (length l) old) k (
 length-map : (f : ℕ → ℕ) (l : List ℕ) → length (map f l) ≡ length l
 length-map f [] = refl
 length-map f (a ∷ l) = ap suc (length-map f l)
-
-at-map : (f : ℕ → ℕ) (l : List ℕ) (i : ℕ) → i < length l → at (map f l) i ≡ f (at l i)
-at-map f [] i h = absurd (omega arith)
-at-map f (a ∷ l) zero h = refl
-at-map f (a ∷ l) (suc i) h = at-map f l i (omega arith)
 
 module _ (birth S : List ℕ) where
   pub length-samples : length (sampleRows birth S) ≡ length S

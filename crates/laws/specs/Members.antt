@@ -1,7 +1,7 @@
 -- A number in a list: by place, in joined lists, and its index.
 use mathlib.Core.Path.{_≡_, refl, sym, ap, _∙_}
 use mathlib.Core.Bool.{Bool, true, false}
-use mathlib.Core.List.{List, [], _∷_, _++_}
+use mathlib.Core.List.{List, [], _∷_, _++_, map}
 use mathlib.Core.Logic.{_⊎_, inl, inr, ⊎-elim}
 use Prim.Native.Nat.{ℕ, zero, suc, _+_, _<_, _≤_}
 use native.Mathlib.Omega.{arith}
@@ -79,3 +79,9 @@ mem-right a (b ∷ l) m h = mem-there a b (l ++ m) (mem-right a l m h)
 pub mem-split : (a : ℕ) (l m : List ℕ) → mem a (l ++ m) ≡ true → (mem a l ≡ true) ⊎ (mem a m ≡ true)
 mem-split a [] m h = inr h
 mem-split a (b ∷ l) m h = ⊎-elim (λ (e : a ≡ b). inl (mem-here a b l e)) (λ (k : mem a (l ++ m) ≡ true). ⊎-elim (λ (i : mem a l ≡ true). inl (mem-there a b l i)) (λ (i : mem a m ≡ true). inr i) (mem-split a l m k)) (mem-cases a b (l ++ m) h)
+
+-- a column through a function, cell by cell
+pub at-map : (f : ℕ → ℕ) (l : List ℕ) (i : ℕ) → i < length l → at (map f l) i ≡ f (at l i)
+at-map f [] i h = absurd (omega arith)
+at-map f (a ∷ l) zero h = refl
+at-map f (a ∷ l) (suc i) h = at-map f l i (omega arith)

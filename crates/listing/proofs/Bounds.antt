@@ -8,7 +8,7 @@ use lib.ListN.{length, length-append}
 use Rattle.meaning.specs.Words.{at}
 use Rattle.laws.specs.Bools.{eq?}
 use Rattle.meaning.specs.Rows.{NodeColumns, EdgeColumns, SiteColumns, MutationColumns, Tables}
-use Rattle.listing.specs.Listing.{decimal, rest, line, numbers, lines, nodeLine, edgeLine, siteLine, mutationLine, outRow, mapLine, listed, refusedLine}
+use Rattle.meaning.specs.Printed.{decimal, rest, line, numbers, lines, nodeLine, edgeLine, siteLine, mutationLine, outRow, mapLine, listed, refusedLine}
 use Rattle.listing.specs.Written.{room}
 use Rattle.listing.proofs.Digits.{few-digits}
 use Rattle.listing.proofs.Going.{lines-most}

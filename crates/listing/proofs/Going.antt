@@ -6,7 +6,7 @@ use native.Mathlib.Nat.{suc-mul}
 use native.Mathlib.Numerals.{add-one}
 use native.Mathlib.Omega.{arith}
 use lib.ListN.{length, length-append}
-use Rattle.listing.specs.Listing.{decimal, rest, line, numbers, lines}
+use Rattle.meaning.specs.Printed.{decimal, rest, line, numbers, lines}
 use Rattle.listing.specs.Written.{Wrote, spaced}
 use Rattle.listing.proofs.Writing.{wrote-nothing, wrote-length, wrote-then, wrote-as}
 

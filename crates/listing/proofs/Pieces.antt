@@ -5,7 +5,7 @@ use Prim.Native.Nat.{ℕ}
 use borrow.Author.Tests.{eq-eqb, ne-eqb}
 use lib.ListN.{length}
 use Rattle.meaning.specs.Words.{at}
-use Rattle.listing.specs.Listing.{decimal, rest, line, numbers, lines, outRow, mapLine, refusedLine}
+use Rattle.meaning.specs.Printed.{decimal, rest, line, numbers, lines, outRow, mapLine, refusedLine}
 use Rattle.listing.proofs.Going.{lines-first}
 
 -- ---- a line of numbers, by numbers that equal them

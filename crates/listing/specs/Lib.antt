@@ -1,4 +1,3 @@
--- 01's printed listing: its bytes, what a writer promises, and 01's own listing.
-pub mod Listing
+-- What a writer of the listing promises, and lines by hand.
 pub mod Written
 pub mod ByHand

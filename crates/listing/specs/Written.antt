@@ -5,7 +5,7 @@ use Prim.Native.Nat.{ℕ, _+_, _*_, _≤_}
 use lib.ListN.{length, take, drop}
 use Rattle.meaning.specs.Words.{at}
 use Rattle.meaning.specs.Answer.{put}
-use Rattle.listing.specs.Listing.{decimal}
+use Rattle.meaning.specs.Printed.{decimal}
 
 -- new bytes laid into the old ones from offset o on
 unfoldable pub lay : ℕ → List ℕ → List ℕ → List ℕ

@@ -5,7 +5,7 @@ mod tables;
 
 ghost use Prim.Native.Nat.{_≤_};
 ghost use lib.ListN.{length};
-ghost use Rattle.listing.specs.Listing.{listed, refusedLine, tooLong};
+ghost use Rattle.meaning.specs.Printed.{listed, refusedLine, tooLong};
 ghost use Rattle.listing.specs.Written.{Printed, room};
 
 // The listing, whole, at the front of out; the number of its bytes.

@@ -2,7 +2,7 @@
 ghost use mathlib.Core.List.{[], _∷_};
 ghost use Prim.Native.Nat.{_+_, _<_, _≤_};
 ghost use lib.ListN.{length};
-ghost use Rattle.listing.specs.Listing.{decimal, numbers, lines, outRow};
+ghost use Rattle.meaning.specs.Printed.{decimal, numbers, lines, outRow};
 ghost use Rattle.listing.specs.Written.{Wrote, spaced};
 
 pub fn byte(out: &mut [u8], at: usize, b: u8) -> usize

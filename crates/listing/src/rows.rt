@@ -4,7 +4,7 @@ ghost use mathlib.Core.Path.{_≡_};
 ghost use Prim.Native.Nat.{_+_, _<_, _≤_};
 ghost use lib.ListN.{length};
 ghost use Rattle.meaning.specs.Words.{at as cellOf};
-ghost use Rattle.listing.specs.Listing.{nodeLine, edgeLine, siteLine, mutationLine, mapLine};
+ghost use Rattle.meaning.specs.Printed.{nodeLine, edgeLine, siteLine, mutationLine, mapLine};
 ghost use Rattle.listing.specs.Written.{Wrote};
 
 fn cell(column: &[u32], i: usize) -> usize

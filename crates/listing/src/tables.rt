@@ -2,7 +2,7 @@
 use crate::rows;
 ghost use Prim.Native.Nat.{_+_, _<_, _≤_};
 ghost use lib.ListN.{length};
-ghost use Rattle.listing.specs.Listing.{lines, nodeLine, edgeLine, siteLine, mutationLine, mapLine};
+ghost use Rattle.meaning.specs.Printed.{lines, nodeLine, edgeLine, siteLine, mutationLine, mapLine};
 ghost use Rattle.listing.specs.Written.{Wrote};
 
 pub fn nodes(out: &mut [u8], start: usize, time: &[u32], birth: &[u32]) -> usize

@@ -7,6 +7,7 @@ use lib.ListN.{length, drop}
 use Rattle.meaning.specs.Words.{or, any, lowest}
 use Rattle.meaning.specs.declared.Refusal.{Refusal}
 use Rattle.meaning.specs.declared.Refusal.the-variants.{Ragged, TooMany, Length, BirthRepeated, EdgeBroken, EdgeOrder, EdgeShared, SiteBroken, MutationBroken, MutationAbove, SampleUnknown, SampleRepeated, NoRoom, BatchRagged, BatchTooMany, BatchBirth, BatchEdge, BatchShared, BatchMutation, BatchAbove, MarkWrong, BytesEnd, BytesFollow, RowsOver, EdgeWide, MutationWide, NoSite, NoBirth}
+use Rattle.meaning.specs.declared.Told.{Told}
 use Rattle.meaning.specs.declared.Checked.{Checked}
 use Rattle.meaning.specs.declared.Checked.the-variants as checked
 use Rattle.meaning.specs.declared.Allele.{Allele}
@@ -113,6 +114,10 @@ refusalOf (EdgeWide r) = answer 35 r
 refusalOf (MutationWide r) = answer 36 r
 refusalOf NoSite = answer 41 0
 refusalOf NoBirth = answer 42 0
+
+-- number and row as the code tells them
+abbrev pub toldOf : Told → Answer
+toldOf t = answer (t .number) (t .row)
 
 abbrev pub checkedOf : Checked → Answer
 checkedOf checked.Sound = done

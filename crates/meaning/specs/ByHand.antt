@@ -6,36 +6,74 @@ use Rattle.meaning.specs.Rows.{Tables}
 use Rattle.meaning.specs.Forest.{stands}
 use Rattle.meaning.specs.Answer.{Answer, Stated, answer, done, limits}
 use Rattle.meaning.specs.Check.{check}
-use Rattle.meaning.specs.Clean.{cleaned, nodeMap}
+use Rattle.meaning.specs.Clean.{cleaning}
 use Rattle.meaning.specs.Allele.{allele}
-use Rattle.meaning.specs.Listing.{nodes, edges, sites, muts, listing, with-nodes, with-edges, with-muts}
+use Rattle.meaning.specs.Files.{written}
+use Rattle.meaning.specs.Shown.{shown}
+use Rattle.meaning.specs.Listing.{nodes, edges, sites, muts, listing, file, printed, with-nodes, with-edges, with-muts}
 
--- the columns of tables 1 to 4 with no rows of nodes, edges and mutations
-abbrev none-kept : Tables
-none-kept = record { nodes = record { time = []; birth = [] }; edges = record { left = []; right = []; parent = []; child = [] }; sites = sites; muts = record { site = []; node = []; derived = [] } }
+-- what is lent to P1, P2 and P3: in each column seven cells that hold 7
+abbrev pub cells : List ℕ
+cells = 7 ∷ 7 ∷ 7 ∷ 7 ∷ 7 ∷ 7 ∷ 7 ∷ []
+
+abbrev pub lent : Tables
+lent = record {
+  nodes = record { time = cells; birth = cells };
+  edges = record { left = cells; right = cells; parent = cells; child = cells };
+  sites = record { position = cells; ancestral = cells };
+  muts = record { site = cells; node = cells; derived = cells };
+}
 
 pub record ByHand : Type 0 where
-  -- the listing
-  pub P1 : cleaned stands 10 listing (501 ∷ 502 ∷ []) ≡ record {
-    nodes = record {
-      time = 0 ∷ 0 ∷ 1 ∷ 2 ∷ [];
-      birth = 501 ∷ 502 ∷ 401 ∷ 301 ∷ [];
+  -- the listing: all that the call gives and leaves
+  pub P1 : cleaning stands limits 10 listing (501 ∷ 502 ∷ []) lent cells 4 ≡ record {
+    answer = done;
+    counts = record { nodes = 4; edges = 6; sites = 2; mutations = 3 };
+    cells = record {
+      nodes = record { time = 0 ∷ 0 ∷ 1 ∷ 2 ∷ 7 ∷ 7 ∷ 7 ∷ []; birth = 501 ∷ 502 ∷ 401 ∷ 301 ∷ 7 ∷ 7 ∷ 7 ∷ [] };
+      edges = record {
+        left = 4 ∷ 4 ∷ 0 ∷ 6 ∷ 0 ∷ 6 ∷ 7 ∷ [];
+        right = 6 ∷ 6 ∷ 4 ∷ 10 ∷ 4 ∷ 10 ∷ 7 ∷ [];
+        parent = 2 ∷ 2 ∷ 3 ∷ 3 ∷ 3 ∷ 3 ∷ 7 ∷ [];
+        child = 0 ∷ 1 ∷ 0 ∷ 0 ∷ 1 ∷ 1 ∷ 7 ∷ [];
+      };
+      sites = record { position = 5 ∷ 8 ∷ 7 ∷ 7 ∷ 7 ∷ 7 ∷ 7 ∷ []; ancestral = 65 ∷ 67 ∷ 7 ∷ 7 ∷ 7 ∷ 7 ∷ 7 ∷ [] };
+      muts = record { site = 0 ∷ 1 ∷ 1 ∷ 7 ∷ 7 ∷ 7 ∷ 7 ∷ []; node = 2 ∷ 3 ∷ 0 ∷ 7 ∷ 7 ∷ 7 ∷ 7 ∷ []; derived = 84 ∷ 84 ∷ 71 ∷ 7 ∷ 7 ∷ 7 ∷ 7 ∷ [] };
     };
-    edges = record {
-      left = 4 ∷ 4 ∷ 0 ∷ 6 ∷ 0 ∷ 6 ∷ [];
-      right = 6 ∷ 6 ∷ 4 ∷ 10 ∷ 4 ∷ 10 ∷ [];
-      parent = 2 ∷ 2 ∷ 3 ∷ 3 ∷ 3 ∷ 3 ∷ [];
-      child = 0 ∷ 1 ∷ 0 ∷ 0 ∷ 1 ∷ 1 ∷ [];
-    };
-    sites = record { position = 5 ∷ 8 ∷ []; ancestral = 65 ∷ 67 ∷ [] };
-    muts = record { site = 0 ∷ 1 ∷ 1 ∷ []; node = 2 ∷ 3 ∷ 0 ∷ []; derived = 84 ∷ 84 ∷ 71 ∷ [] };
+    map = 0 ∷ 1 ∷ 2 ∷ 3 ∷ 4294967295 ∷ 7 ∷ 7 ∷ [];
   }
-  pub P1-checked : check limits 10 listing (501 ∷ 502 ∷ []) ≡ done
-  pub P1-map : nodeMap stands 10 listing (501 ∷ 502 ∷ []) ≡ 0 ∷ 1 ∷ 2 ∷ 3 ∷ 4294967295 ∷ []
+  -- its stored file, and what the program prints for that file
+  pub P1-file : written 2 limits 10 listing (501 ∷ 502 ∷ []) ≡ file
+  pub P1-printed : shown file ≡ printed
   -- same, samples 501, 401: one edge (0,10,1,0)
-  pub P2 : cleaned stands 10 listing (501 ∷ 401 ∷ []) .edges ≡ record { left = 0 ∷ []; right = 10 ∷ []; parent = 1 ∷ []; child = 0 ∷ [] }
+  pub P2 : cleaning stands limits 10 listing (501 ∷ 401 ∷ []) lent cells 4 ≡ record {
+    answer = done;
+    counts = record { nodes = 2; edges = 1; sites = 2; mutations = 3 };
+    cells = record {
+      nodes = record { time = 0 ∷ 1 ∷ 7 ∷ 7 ∷ 7 ∷ 7 ∷ 7 ∷ []; birth = 501 ∷ 401 ∷ 7 ∷ 7 ∷ 7 ∷ 7 ∷ 7 ∷ [] };
+      edges = record {
+        left = 0 ∷ 7 ∷ 7 ∷ 7 ∷ 7 ∷ 7 ∷ 7 ∷ [];
+        right = 10 ∷ 7 ∷ 7 ∷ 7 ∷ 7 ∷ 7 ∷ 7 ∷ [];
+        parent = 1 ∷ 7 ∷ 7 ∷ 7 ∷ 7 ∷ 7 ∷ 7 ∷ [];
+        child = 0 ∷ 7 ∷ 7 ∷ 7 ∷ 7 ∷ 7 ∷ 7 ∷ [];
+      };
+      sites = record { position = 5 ∷ 8 ∷ 7 ∷ 7 ∷ 7 ∷ 7 ∷ 7 ∷ []; ancestral = 65 ∷ 67 ∷ 7 ∷ 7 ∷ 7 ∷ 7 ∷ 7 ∷ [] };
+      muts = record { site = 0 ∷ 1 ∷ 1 ∷ 7 ∷ 7 ∷ 7 ∷ 7 ∷ []; node = 1 ∷ 1 ∷ 1 ∷ 7 ∷ 7 ∷ 7 ∷ 7 ∷ []; derived = 84 ∷ 84 ∷ 71 ∷ 7 ∷ 7 ∷ 7 ∷ 7 ∷ [] };
+    };
+    map = 0 ∷ 4294967295 ∷ 1 ∷ 4294967295 ∷ 4294967295 ∷ 7 ∷ 7 ∷ [];
+  }
   -- samples empty: no nodes, edges, mutations; two sites
-  pub P3 : cleaned stands 10 listing [] ≡ none-kept
+  pub P3 : cleaning stands limits 10 listing [] lent cells 4 ≡ record {
+    answer = done;
+    counts = record { nodes = 0; edges = 0; sites = 2; mutations = 0 };
+    cells = record {
+      nodes = lent .nodes;
+      edges = lent .edges;
+      sites = record { position = 5 ∷ 8 ∷ 7 ∷ 7 ∷ 7 ∷ 7 ∷ 7 ∷ []; ancestral = 65 ∷ 67 ∷ 7 ∷ 7 ∷ 7 ∷ 7 ∷ 7 ∷ [] };
+      muts = lent .muts;
+    };
+    map = 4294967295 ∷ 4294967295 ∷ 4294967295 ∷ 4294967295 ∷ 4294967295 ∷ 7 ∷ 7 ∷ [];
+  }
   -- 501 twice: 12, row 1
   pub P4 : check limits 10 listing (501 ∷ 501 ∷ []) ≡ answer 12 1
   -- sample 999: 11, row 0
@@ -53,11 +91,11 @@ pub record ByHand : Type 0 where
   pub P10-502 : allele limits 10 listing 1 502 ≡ record { answer = done; state = 84 }
 
 pub by-hand : ByHand
-unfolding cleaned stands nodeMap check allele
+unfolding cleaning stands check allele written shown
 by-hand = record {
   P1 = refl;
-  P1-checked = refl;
-  P1-map = refl;
+  P1-file = refl;
+  P1-printed = refl;
   P2 = refl;
   P3 = refl;
   P4 = refl;

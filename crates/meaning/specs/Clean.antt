@@ -9,7 +9,8 @@ use Rattle.meaning.specs.Words.{and, or, mem, filter, indexOf, each, any
 use Rattle.meaning.specs.Rows.{Tables, Node, Edge, Mutation, Record, births, recordOf, tablesOf, nodeOf, timeOf, posOf}
 use Rattle.meaning.specs.Forest.{Par, Ages, Rules, parentIn, is, reached, stands, low, drawn}
 use Rattle.meaning.specs.Answer.{Answer, Limits, done, refuse, lacks, left-by}
-use Rattle.meaning.specs.Lent.{Counts, fitThen, countsBy, cellsBy}
+use Rattle.meaning.specs.Lent.{Counts, fitThen, blockThen, countsBy, cellsBy, answerOf, countsOf}
+use Rattle.meaning.specs.declared.Tabled.{Tabled}
 use Rattle.meaning.specs.Check.{checkAllThen}
 
 -- ---- edges "as long as they can be"
@@ -63,6 +64,20 @@ pub record Outcome : Type 0 where
   pub cells : Tables
   pub map : List ℕ
 
+-- the code's answer, and the columns as they are afterwards
+abbrev pub outcomeOf : Tabled → Tables → List ℕ → Outcome
+outcomeOf r cells nodemap = record { answer = answerOf r; counts = countsOf r; cells = cells; map = nodemap }
+
+-- what an answer gives and leaves, where new and newMap are the result
+unfoldable pub cleanEnd : Answer → Tables → List ℕ → Tables → List ℕ → Outcome
+unfolding countsBy cellsBy left-by
+cleanEnd a new newMap out outMap = record { answer = a; counts = countsBy a new; cells = cellsBy a new out; map = left-by a newMap outMap }
+
+-- 13 for a result, "lowest such table": tables 1 to 4, then the map as table 6, then the block of a call from C
+unfoldable pub cleanFit : Limits → Tables → List ℕ → Tables → List ℕ → ℕ → Answer
+unfolding fitThen refuse lacks blockThen
+cleanFit m new newMap out outMap cells = fitThen m new out (refuse (lacks (m .nodes) (outMap ∷ []) (length newMap)) 13 6 (blockThen cells done))
+
 -- ---- cleaning, for a rule of what stands
 
 module _ (rule : Rules) where
@@ -108,24 +123,14 @@ module _ (rule : Rules) where
   unfolding kept recordOf rowIn
   nodeMap L T S = map (rowIn (kept (recordOf L T) S)) (T .nodes .birth)
 
-  -- ---- the call
+  -- ---- the call, for a block of so many cells
 
   -- "cleaning checks 1 to 13"
-  unfoldable pub cleanAnswer : Limits → ℕ → Tables → List ℕ → Tables → List ℕ → Answer
-  unfolding checkAllThen fitThen cleaned nodeMap lacks refuse
-  cleanAnswer m L T S out outMap =
-      checkAllThen m L T S
-      (fitThen m (cleaned L T S) out
-      (refuse (lacks (m .nodes) (outMap ∷ []) (length (nodeMap L T S))) 13 6 done))
+  unfoldable pub cleanAnswer : Limits → ℕ → Tables → List ℕ → Tables → List ℕ → ℕ → Answer
+  unfolding checkAllThen cleanFit cleaned nodeMap
+  cleanAnswer m L T S out outMap cells = checkAllThen m L T S (cleanFit m (cleaned L T S) (nodeMap L T S) out outMap cells)
 
   -- all that a cleaning gives and leaves, of all that it was lent
-  unfoldable pub cleaning : Limits → ℕ → Tables → List ℕ → Tables → List ℕ → Outcome
-  unfolding cleanAnswer cleaned nodeMap countsBy cellsBy left-by
-  cleaning m L T S out outMap =
-      let a : Answer = cleanAnswer m L T S out outMap in
-      record {
-        answer = a;
-        counts = countsBy a (cleaned L T S);
-        cells = cellsBy a (cleaned L T S) out;
-        map = left-by a (nodeMap L T S) outMap;
-      }
+  unfoldable pub cleaning : Limits → ℕ → Tables → List ℕ → Tables → List ℕ → ℕ → Outcome
+  unfolding cleanEnd cleanAnswer cleaned nodeMap
+  cleaning m L T S out outMap cells = cleanEnd (cleanAnswer m L T S out outMap cells) (cleaned L T S) (nodeMap L T S) out outMap

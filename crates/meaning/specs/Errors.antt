@@ -119,9 +119,9 @@ out = record {
 
 pub record NoRoom : Type 0 where
   pub wrong : put (cleaned stands 10 listing samples .nodes .time) (out .nodes .time) ≡ 0 ∷ 0 ∷ 1 ∷ 2 ∷ []
-  pub refused : cleaning stands limits 10 listing samples out (lent 4) .answer ≡ answer 13 6
-  pub right : cleaning stands limits 10 listing samples out (lent 4) .cells ≡ out
-  pub map-too : cleaning stands limits 10 listing samples out (lent 4) .map ≡ lent 4
+  pub refused : cleaning stands limits 10 listing samples out (lent 4) 4 .answer ≡ answer 13 6
+  pub right : cleaning stands limits 10 listing samples out (lent 4) 4 .cells ≡ out
+  pub map-too : cleaning stands limits 10 listing samples out (lent 4) 4 .map ≡ lent 4
 
 pub no-room : NoRoom
 unfolding put cleaned cleaning stands

@@ -7,7 +7,8 @@ use lib.ListN.{length}
 use Rattle.meaning.specs.Words.{or, at, mem, lex, filter, sort}
 use Rattle.meaning.specs.Rows.{NodeColumns, EdgeColumns, MutationColumns, Tables, Node, Edge, Mutation, Record, edgeKey, nodesOf, edgesOf, mutsOf, recordOf, tablesOf, timeOf}
 use Rattle.meaning.specs.Answer.{Answer, Limits, done, refuse, refuseRow, ragged}
-use Rattle.meaning.specs.Lent.{Counts, fitThen, countsBy, cellsBy}
+use Rattle.meaning.specs.Lent.{Counts, fitThen, blockThen, countsBy, cellsBy, answerOf, countsOf}
+use Rattle.meaning.specs.declared.Tabled.{Tabled}
 use Rattle.meaning.specs.Check.{repeated, edgeShared, mutationAbove, checkThen}
 
 -- "A batch has nodes (time, birth), edges (left, right, parent birth, child birth) and mutations (site row, node birth, state), in any row order"
@@ -121,10 +122,12 @@ batchRules L T B rest =
     (refuseRow 25 (batchMutation (length (T .sites .position)) (B .nodes .birth) (B .muts)) (length (B .muts .site))
     (refuseRow 26 (mutationAbove (edgesOf (at (T .nodes .birth)) (T .edges) ++ edgesOf (λ b. b) (B .edges)) (T .sites .position) (λ b. b) (B .muts)) (length (B .muts .site)) rest))))
 
--- "The base tables are checked first for 1 to 10, then .. Last comes 13."
-unfoldable pub joinAnswer : Limits → ℕ → Tables → BatchTables → Tables → Answer
-unfolding checkThen batchShapes batchSizes batchRules fitThen joined
-joinAnswer m L T B out = checkThen m L T (batchShapes B (batchSizes m T B (batchRules L T B (fitThen m (joined L T B) out done))))
+-- "The base tables are checked first for 1 to 10, then" 20 to 26, and then what comes after
+unfoldable pub batchThen : Limits → ℕ → Tables → BatchTables → Answer → Answer
+unfolding checkThen batchShapes batchSizes batchRules
+batchThen m L T B rest = checkThen m L T (batchShapes B (batchSizes m T B (batchRules L T B rest)))
+
+-- ---- the call, for a block of so many cells
 
 -- all that a join gives and leaves
 pub record JoinOutcome : Type 0 where
@@ -132,8 +135,24 @@ pub record JoinOutcome : Type 0 where
   pub counts : Counts
   pub cells : Tables
 
-unfoldable pub joining : Limits → ℕ → Tables → BatchTables → Tables → JoinOutcome
-unfolding joinAnswer countsBy cellsBy joined
-joining m L T B out =
-    let a : Answer = joinAnswer m L T B out in
-    record { answer = a; counts = countsBy a (joined L T B); cells = cellsBy a (joined L T B) out }
+-- the code's answer, and the columns as they are afterwards
+abbrev pub joinedOf : Tabled → Tables → JoinOutcome
+joinedOf r cells = record { answer = answerOf r; counts = countsOf r; cells = cells }
+
+-- what an answer gives and leaves, where new is the result
+unfoldable pub joinEnd : Answer → Tables → Tables → JoinOutcome
+unfolding countsBy cellsBy
+joinEnd a new out = record { answer = a; counts = countsBy a new; cells = cellsBy a new out }
+
+-- "Last comes 13": tables 1 to 4, then the block of a call from C
+unfoldable pub joinFit : Limits → Tables → Tables → ℕ → Answer
+unfolding fitThen blockThen
+joinFit m new out cells = fitThen m new out (blockThen cells done)
+
+unfoldable pub joinAnswer : Limits → ℕ → Tables → BatchTables → Tables → ℕ → Answer
+unfolding batchThen joinFit joined
+joinAnswer m L T B out cells = batchThen m L T B (joinFit m (joined L T B) out cells)
+
+unfoldable pub joining : Limits → ℕ → Tables → BatchTables → Tables → ℕ → JoinOutcome
+unfolding joinEnd joinAnswer joined
+joining m L T B out cells = joinEnd (joinAnswer m L T B out cells) (joined L T B) out

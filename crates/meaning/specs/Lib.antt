@@ -8,8 +8,12 @@ pub mod Check
 pub mod Clean
 pub mod Allele
 pub mod Join
-pub mod Listing
 pub mod Called
+pub mod Stored
+pub mod Files
+pub mod Printed
+pub mod Shown
+pub mod Listing
 pub mod ByHand
 pub mod Errors
 pub mod Small

@@ -67,9 +67,13 @@ pub record Record : Type 0 where
 
 -- ---- what columns mean
 
+-- row i of the nodes
+abbrev pub nodeAt : NodeColumns → ℕ → Node
+nodeAt N i = record { time = at (N .time) i; birth = at (N .birth) i }
+
 unfoldable pub nodesOf : NodeColumns → List Node
 unfolding rows
-nodesOf N = rows (λ i. record { time = at (N .time) i; birth = at (N .birth) i }) (length (N .time))
+nodesOf N = rows (λ i. nodeAt N i) (length (N .time))
 
 -- name turns what the columns hold into a birth number
 unfoldable pub edgesOf : (ℕ → ℕ) → EdgeColumns → List Edge

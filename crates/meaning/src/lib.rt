@@ -1,7 +1,7 @@
 // The limits of 01's tables, each once, with the table it belongs to, and the answers of the calls.
 // What they mean is in specs/.
 ghost use mathlib.Core.Path.{_≡_};
-ghost use Rattle.meaning.specs.Answer.{Limits, limits, longest};
+ghost use Rattle.meaning.specs.Answer.{Limits, limits, longest, refusalOf, toldOf};
 
 // Table 1: time and birth number of each node.
 pub struct NodeTable {
@@ -129,6 +129,59 @@ pub enum Checked {
 pub enum Allele {
     State(u8),
     Refused(Refusal),
+}
+
+// The answer of a call that writes tables 1 to 4: the rows written in each.
+pub enum Tabled {
+    Done {
+        nodes: usize,
+        edges: usize,
+        sites: usize,
+        mutations: usize,
+    },
+    Refused(Refusal),
+}
+
+// A refusal as 01 tells it.
+pub struct Told {
+    pub number: u32,
+    pub row: usize,
+}
+
+// The number and the row of a refusal: the one place of the code that has them.
+pub fn tell(x: Refusal) -> Told
+    ensures { λ r. ⌜ toldOf r ≡ refusalOf x ⌝ }
+{
+    match x {
+        Refusal::Ragged(row) => Told { number: 1, row },
+        Refusal::TooMany(row) => Told { number: 2, row },
+        Refusal::Length => Told { number: 3, row: 0 },
+        Refusal::BirthRepeated(row) => Told { number: 4, row },
+        Refusal::EdgeBroken(row) => Told { number: 5, row },
+        Refusal::EdgeOrder(row) => Told { number: 6, row },
+        Refusal::EdgeShared(row) => Told { number: 7, row },
+        Refusal::SiteBroken(row) => Told { number: 8, row },
+        Refusal::MutationBroken(row) => Told { number: 9, row },
+        Refusal::MutationAbove(row) => Told { number: 10, row },
+        Refusal::SampleUnknown(row) => Told { number: 11, row },
+        Refusal::SampleRepeated(row) => Told { number: 12, row },
+        Refusal::NoRoom(row) => Told { number: 13, row },
+        Refusal::BatchRagged(row) => Told { number: 20, row },
+        Refusal::BatchTooMany(row) => Told { number: 21, row },
+        Refusal::BatchBirth(row) => Told { number: 22, row },
+        Refusal::BatchEdge(row) => Told { number: 23, row },
+        Refusal::BatchShared(row) => Told { number: 24, row },
+        Refusal::BatchMutation(row) => Told { number: 25, row },
+        Refusal::BatchAbove(row) => Told { number: 26, row },
+        Refusal::MarkWrong(row) => Told { number: 31, row },
+        Refusal::BytesEnd(row) => Told { number: 32, row },
+        Refusal::BytesFollow(row) => Told { number: 33, row },
+        Refusal::RowsOver(row) => Told { number: 34, row },
+        Refusal::EdgeWide(row) => Told { number: 35, row },
+        Refusal::MutationWide(row) => Told { number: 36, row },
+        Refusal::NoSite => Told { number: 41, row: 0 },
+        Refusal::NoBirth => Told { number: 42, row: 0 },
+    }
 }
 
 // The limits of the code are 01's.

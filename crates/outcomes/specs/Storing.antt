@@ -4,7 +4,7 @@ use mathlib.Core.List.{List}
 use Prim.Native.Nat.{ℕ}
 use Rattle.meaning.specs.Rows.{Tables}
 use Rattle.accepted.specs.Numbers.{refusal-one}
-use Rattle.stored.specs.Calls.{Reading, Writing}
+use Rattle.meaning.specs.Files.{Reading, Writing}
 use Rattle.stored.specs.Answers.{readOf, writtenOf}
 use Rattle.stored.specs.declared.Rows.{Rows}
 use Rattle.stored.specs.declared.ReadAnswer.{ReadAnswer}

@@ -30,13 +30,13 @@ use Rattle.results.specs.Facts.{RecordSound, record-sound-of}
 use Rattle.results.specs.Tabled.{apart-of, tabled-sound}
 use Rattle.results.specs.Cleaned.{clean-record-sound}
 
-module _ (rule : Rules) (pr : Profile rule) (m : Limits) (L : ℕ) (T : Tables) (S : List ℕ) (out : Tables) (outMap : List ℕ)
-    (accept : Accepted (cleanAnswer rule m L T S out outMap)) (young : Young (T .nodes)) where
-  told : Cleans rule m L T S out outMap
-  told = clean-tells rule m L T S out outMap accept
+module _ (rule : Rules) (pr : Profile rule) (m : Limits) (L : ℕ) (T : Tables) (S : List ℕ) (out : Tables) (outMap : List ℕ) (cells : ℕ)
+    (accept : Accepted (cleanAnswer rule m L T S out outMap cells)) (young : Young (T .nodes)) where
+  told : Cleans rule m L T S out outMap cells
+  told = clean-tells rule m L T S out outMap cells accept
 
   ok : CleanOk (recordOf L T) S
-  ok = clean-accepted rule m L T S out outMap accept young
+  ok = clean-accepted rule m L T S out outMap cells accept young
 
   facts : RecordSound L (recordOf L T)
   facts = record-sound-of m L T (told .sound)

@@ -33,9 +33,9 @@ pub record Together (R : Record) (B : Batch) (X : Record) : Type 0 where
   pub muts : (f : Mutation → Bool) → often f (X .muts) ≡ often f (R .muts) + often f (B .muts)
   pub sites : X .sites ≡ R .sites
 
-module _ (m : Limits) (L : ℕ) (T : Tables) (B : BatchTables) (out : Tables) (accept : Accepted (joinAnswer m L T B out)) where
-  told : JoinsUp m L T B out
-  told = join-tells m L T B out accept
+module _ (m : Limits) (L : ℕ) (T : Tables) (B : BatchTables) (out : Tables) (cells : ℕ) (accept : Accepted (joinAnswer m L T B out cells)) where
+  told : JoinsUp m L T B out cells
+  told = join-tells m L T B out cells accept
 
   facts : RecordSound L (recordOf L T)
   facts = record-sound-of m L T (told .sound)

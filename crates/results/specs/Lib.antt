@@ -15,3 +15,5 @@ pub mod Marginal
 pub mod Published
 pub mod Witness
 pub mod Only
+pub mod NodeTable
+pub mod Meetings

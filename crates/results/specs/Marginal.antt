@@ -33,8 +33,8 @@ whole-apart L time D d e v w p c t = before (e .left) refl
     before zero q = omega (arith, v .wide)
     before (suc y) q = clash (sym (λ n. is (D y (c n)) (p n)) ∙ v .holds y (omega (arith, v .wide)) (omega arith)) (w .begins y q)
 
-module _ (m : Limits) (L : ℕ) (T : Tables) (S : List ℕ) (out : Tables) (outMap : List ℕ)
-    (accept : Accepted (cleanAnswer stands m L T S out outMap)) (young : Young (T .nodes)) where
+module _ (m : Limits) (L : ℕ) (T : Tables) (S : List ℕ) (out : Tables) (outMap : List ℕ) (cells : ℕ)
+    (accept : Accepted (cleanAnswer stands m L T S out outMap cells)) (young : Young (T .nodes)) where
   abbrev R : Record
   R = recordOf L T
 
@@ -42,7 +42,7 @@ module _ (m : Limits) (L : ℕ) (T : Tables) (S : List ℕ) (out : Tables) (outM
   C = cleaned stands L T S
 
   ok : CleanOk (recordOf L T) S
-  ok = clean-accepted stands m L T S out outMap accept young
+  ok = clean-accepted stands m L T S out outMap cells accept young
 
   pub given-aged : (x : ℕ) → Aged (treeAt L T x) (timeOf (recordOf L T .nodes))
   given-aged x = good-aged R (ok .good) x
@@ -55,7 +55,7 @@ module _ (m : Limits) (L : ℕ) (T : Tables) (S : List ℕ) (out : Tables) (outM
   same-length = refl
 
   pub tree-is : (x : ℕ) → x < L → treeAt L (cleaned stands L T S) x ≡ drawn (treeAt L T x) (stands (births (recordOf L T .nodes)) (treeAt L T x) S)
-  tree-is x l = ap (λ (Z : Record). parentIn (Z .edges) x) (cleaned-means stands stands-profile m L T S out outMap accept young) ∙ clean-parent stands stands-profile R S ok x (omega (arith, same-length))
+  tree-is x l = ap (λ (Z : Record). parentIn (Z .edges) x) (cleaned-means stands stands-profile m L T S out outMap cells accept young) ∙ clean-parent stands stands-profile R S ok x (omega (arith, same-length))
 
   -- ---- what is left leads down to a sample
 
@@ -79,7 +79,7 @@ module _ (m : Limits) (L : ℕ) (T : Tables) (S : List ℕ) (out : Tables) (outM
   there = edges-whole L (timeOf (R .nodes)) D (kept stands R S) (kept-distinct stands R S (ok .good .once) (ok .distinct))
 
   pub left-whole : All (Whole L (timeOf (recordOf L T .nodes)) (forestAt stands (recordOf L T) S)) (recordOf L (cleaned stands L T S) .edges)
-  left-whole = subst (λ (Z : Record). All (Whole L (timeOf (R .nodes)) D) (Z .edges)) (sym (cleaned-means stands stands-profile m L T S out outMap accept young)) there
+  left-whole = subst (λ (Z : Record). All (Whole L (timeOf (R .nodes)) D) (Z .edges)) (sym (cleaned-means stands stands-profile m L T S out outMap cells accept young)) there
 
   pub edge-ancestral : (e : Edge) → Whole L (timeOf (recordOf L T .nodes)) (forestAt stands (recordOf L T) S) e → (x : ℕ) → e .left ≤ x → x < e .right → Ancestral L T (cleaned stands L T S) S x (e .child)
   unfolding forestAt standsAt

@@ -58,6 +58,19 @@ position-at [] i = refl
 position-at (s ∷ l) zero = refl
 position-at (s ∷ l) (suc i) = position-at l i
 
+-- tables made of a record have columns of one length
+pub tables-even : (R : Record) → Shaped (tablesOf R)
+unfolding tablesOf
+tables-even R = record {
+  births = births-long (R .nodes) ∙ sym (length-map (R .nodes) (λ (n : Node). n .time));
+  rights = length-map (R .edges) (λ (e : Edge). e .right) ∙ sym (length-map (R .edges) (λ (e : Edge). e .left));
+  parents = length-map (R .edges) (λ (e : Edge). indexOf (e .parent) (births (R .nodes))) ∙ sym (length-map (R .edges) (λ (e : Edge). e .left));
+  children = length-map (R .edges) (λ (e : Edge). indexOf (e .child) (births (R .nodes))) ∙ sym (length-map (R .edges) (λ (e : Edge). e .left));
+  states = length-map (R .sites) (λ (s : Site). s .state) ∙ sym (length-map (R .sites) (λ (s : Site). s .pos));
+  mutated = length-map (R .muts) (λ (m : Mutation). indexOf (m .node) (births (R .nodes))) ∙ sym (length-map (R .muts) (λ (m : Mutation). m .site));
+  derived = length-map (R .muts) (λ (m : Mutation). m .derived) ∙ sym (length-map (R .muts) (λ (m : Mutation). m .site));
+}
+
 -- ---- the columns
 
 module _ (L : ℕ) (R : Record) (s : RecordSound L R) where
@@ -81,16 +94,7 @@ module _ (L : ℕ) (R : Record) (s : RecordSound L R) where
   mutation i = getD (R .muts) i no-mutation
 
   shaped : Shaped C
-  unfolding tablesOf
-  shaped = record {
-    births = births-long (R .nodes) ∙ sym (length-map (R .nodes) (λ (n : Node). n .time));
-    rights = length-map (R .edges) (λ (e : Edge). e .right) ∙ sym (length-map (R .edges) (λ (e : Edge). e .left));
-    parents = length-map (R .edges) (λ (e : Edge). indexOf (e .parent) N) ∙ sym (length-map (R .edges) (λ (e : Edge). e .left));
-    children = length-map (R .edges) (λ (e : Edge). indexOf (e .child) N) ∙ sym (length-map (R .edges) (λ (e : Edge). e .left));
-    states = length-map (R .sites) (λ (s : Site). s .state) ∙ sym (length-map (R .sites) (λ (s : Site). s .pos));
-    mutated = length-map (R .muts) (λ (m : Mutation). indexOf (m .node) N) ∙ sym (length-map (R .muts) (λ (m : Mutation). m .site));
-    derived = length-map (R .muts) (λ (m : Mutation). m .derived) ∙ sym (length-map (R .muts) (λ (m : Mutation). m .site));
-  }
+  shaped = tables-even R
 
   -- ---- edges
 

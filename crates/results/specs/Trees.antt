@@ -64,7 +64,7 @@ module _ (P : Par) (rank : ℕ → ℕ) (ok : Aged P rank) (N : List ℕ) (nd : 
   forks : (u : ℕ) → K u ≡ true → Stands Q (In S) u
   forks u k = stands-out ct (In S) rank (ok .ranked) (λ s h. ru .samples h) k (stands-of P rank ok N nd S u k)
 
-  stands-vertex : (u : ℕ) → K u ≡ true → Vertex Q S u
+  pub stands-vertex : (u : ℕ) → K u ≡ true → Vertex Q S u
   stands-vertex u k = go (forks u k)
     where
       go : Stands Q (In S) u → Vertex Q S u

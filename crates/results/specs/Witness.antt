@@ -36,11 +36,11 @@ room = record {
   muts = record { site = lent 5; node = lent 5; derived = lent 5 };
 }
 
-pub listing-cleans : Accepted (cleanAnswer stands limits 10 listing (501 ∷ 502 ∷ []) room (replicate 5 7))
+pub listing-cleans : Accepted (cleanAnswer stands limits 10 listing (501 ∷ 502 ∷ []) room (replicate 5 7) 4)
 unfolding accepted cleanAnswer stands
 listing-cleans = refl
 
-pub listing-joins : Accepted (joinAnswer limits 10 listing spawn room)
+pub listing-joins : Accepted (joinAnswer limits 10 listing spawn room 4)
 unfolding accepted joinAnswer
 listing-joins = refl
 
@@ -62,9 +62,9 @@ each-of-two l p q b h = ⊎-elim
 
 -- the cleaned listing passes the check for two of its nodes, one of them no sample of the cleaning
 pub cleaned-listing : check limits 10 (cleaned stands 10 listing (501 ∷ 502 ∷ [])) two ≡ done
-cleaned-listing = cleaned-passes stands stands-profile limits 10 listing (501 ∷ 502 ∷ []) room (replicate 5 7) listing-cleans listing-young two (omega arith) two-once
+cleaned-listing = cleaned-passes stands stands-profile limits 10 listing (501 ∷ 502 ∷ []) room (replicate 5 7) 4 listing-cleans listing-young two (omega arith) two-once
     (each-of-two (cleaned stands 10 listing (501 ∷ 502 ∷ []) .nodes .birth) (unfold mem cleaned stands in refl) (unfold mem cleaned stands in refl))
 
 -- and so does the listing with a batch of two births
 pub joined-listing : check limits 10 (joined 10 listing spawn) two ≡ done
-joined-listing = joined-passes limits 10 listing spawn room listing-joins two (omega arith) two-once (each-of-two (joined 10 listing spawn .nodes .birth) (unfold mem joined in refl) (unfold mem joined in refl))
+joined-listing = joined-passes limits 10 listing spawn room 4 listing-joins two (omega arith) two-once (each-of-two (joined 10 listing spawn .nodes .birth) (unfold mem joined in refl) (unfold mem joined in refl))

@@ -10,17 +10,17 @@ use Rattle.meaning.specs.Words.{and}
 use Rattle.meaning.specs.Rows.{Tables, recordOf}
 use Rattle.meaning.specs.Forest.{stands}
 use Rattle.meaning.specs.Answer.{Answer, done, limits, accepted, refuse, lacks, put, left-by}
-use Rattle.meaning.specs.Lent.{Counts, countsBy, cellsBy}
-use Rattle.meaning.specs.Clean.{Outcome, rowIn, kept, cleaned, nodeMap, cleanAnswer, cleaning}
+use Rattle.meaning.specs.Lent.{Counts, rowsIn, countsBy, cellsBy}
+use Rattle.meaning.specs.Clean.{Outcome, cleanEnd, rowIn, kept, cleaned, nodeMap, cleanAnswer, cleaning}
 use Rattle.laws.specs.Facts.{All}
 use Rattle.laws.specs.Facts.All.{also}
 use Rattle.accepted.specs.Refusals.{Accepted, of-done, passed}
 use Rattle.accepted.specs.Rooms.{Fits, fits-of, passed-room}
 use Rattle.accepted.specs.Calls.{Cleans, clean-tells}
-use Rattle.stored.specs.Stored.{isMark, Kind, Form, form, rowsAt, after, stopThen, kindThen, endThen, kindsThen, formThen}
-use Rattle.stored.specs.Calls.{Reading, reading, handed, ifDone, roomAnswer, found, tablesIn, samplesIn}
+use Rattle.meaning.specs.Stored.{isMark, Kind, Form, form, rowsAt, after, stopThen, kindThen, endThen, kindsThen, formThen}
+use Rattle.meaning.specs.Files.{Reading, reading, handed, ifDone, roomAnswer, found, tablesIn, samplesIn}
 use Rattle.listing.specs.Written.{room}
-use Rattle.show.specs.Shown.{Long}
+use Rattle.meaning.specs.Shown.{Long}
 
 -- so many rows keep to the limits
 pub record Few (n : Counts) : Type 0 where
@@ -29,13 +29,13 @@ pub record Few (n : Counts) : Type 0 where
   pub sites : n .sites ≤ limits .sites
   pub mutations : n .mutations ≤ limits .mutations
 
-counts-accepted : (a : Answer) (T : Tables) → Accepted a → countsBy a T ≡ record { nodes = length (T .nodes .time); edges = length (T .edges .left); sites = length (T .sites .position); mutations = length (T .muts .site) }
+counts-accepted : (a : Answer) (T : Tables) → Accepted a → countsBy a T ≡ rowsIn T
 unfolding countsBy
 counts-accepted a T h = rw (h, countsBy)
 
 few-of : (a : Answer) (new out : Tables) (n : Counts) → Accepted a → n ≡ countsBy a new → Fits limits new out → Few n
 few-of a new out n h e f =
-    let q : n ≡ record { nodes = length (new .nodes .time); edges = length (new .edges .left); sites = length (new .sites .position); mutations = length (new .muts .site) } = e ∙ counts-accepted a new h in
+    let q : n ≡ rowsIn new = e ∙ counts-accepted a new h in
     record {
       nodes = omega (arith, ap (λ (c : Counts). c .nodes) q, f .nodes .few);
       edges = omega (arith, ap (λ (c : Counts). c .edges) q, f .edges .few);
@@ -66,7 +66,7 @@ one : {need : ℕ} {a : List ℕ} → All (λ c. need ≤ length c) (a ∷ []) �
 one (also p All.done) = p
 
 -- the rows of an accepted answer are there in each column that it leaves
-fronts-of : (a : Answer) (new out : Tables) → Fits limits new out → Long (record { nodes = length (new .nodes .time); edges = length (new .edges .left); sites = length (new .sites .position); mutations = length (new .muts .site) }) (cellsBy a new out)
+fronts-of : (a : Answer) (new out : Tables) → Fits limits new out → Long (rowsIn new) (cellsBy a new out)
 unfolding cellsBy
 fronts-of a new out f =
     let n : _ = both (f .nodes .roomy) in
@@ -100,13 +100,13 @@ pub record Listable (n : Counts) (cells : Tables) (rows : ℕ) (nodemap : List �
   pub rows-long : rows ≤ length nodemap
 
 -- what a cleaning that is done wrote
-pub clean-listable : (L : ℕ) (T : Tables) (S : List ℕ) (out : Tables) (outMap : List ℕ) (n : Counts) (cells : Tables) (nodemap : List ℕ) → record { answer = done; counts = n; cells = cells; map = nodemap } ≡ cleaning stands limits L T S out outMap → Listable n cells (length (T .nodes .birth)) nodemap
-unfolding cleaning nodeMap
+pub clean-listable : (L : ℕ) (T : Tables) (S : List ℕ) (out : Tables) (outMap : List ℕ) (n : Counts) (cells : Tables) (nodemap : List ℕ) → record { answer = done; counts = n; cells = cells; map = nodemap } ≡ cleaning stands limits L T S out outMap 4 → Listable n cells (length (T .nodes .birth)) nodemap
+unfolding cleaning cleanEnd nodeMap
 clean-listable L T S out outMap n cells nodemap e =
-    let a : Answer = cleanAnswer stands limits L T S out outMap in
+    let a : Answer = cleanAnswer stands limits L T S out outMap 4 in
     let new : Tables = cleaned stands L T S in
     let h : Accepted a = of-done a (sym (ap (λ (o : Outcome). o .answer) e)) in
-    let k : Cleans stands limits L T S out outMap = clean-tells stands limits L T S out outMap h in
+    let k : Cleans stands limits L T S out outMap 4 = clean-tells stands limits L T S out outMap 4 h in
     let same : length (nodeMap stands L T S) ≡ length (T .nodes .birth) = length-map (T .nodes .birth) (rowIn (kept stands (recordOf L T) S)) in
     let l : length (nodeMap stands L T S) ≤ length (left-by a (nodeMap stands L T S) outMap) = left-long a (nodeMap stands L T S) outMap _ (one (k .map-fits .roomy)) in
     record {

@@ -12,10 +12,10 @@ use Rattle.meaning.specs.declared.Refusal.{Refusal}
 use Rattle.meaning.specs.Lent.{Counts}
 use Rattle.meaning.specs.Clean.{cleaning}
 use Rattle.accepted.specs.Numbers.{refusal-refuses}
-use Rattle.stored.specs.Calls.{reading}
-use Rattle.listing.specs.Listing.{listed, refusedLine, tooLong}
+use Rattle.meaning.specs.Files.{reading}
+use Rattle.meaning.specs.Printed.{listed, refusedLine, tooLong}
 use Rattle.listing.specs.Written.{Printed}
-use Rattle.show.specs.Shown.{zeros, blank, front, printedBy, outcomeShown, cleanShown, readingShown, shown, answered}
+use Rattle.meaning.specs.Shown.{zeros, blank, front, printedBy, outcomeShown, cleanShown, readingShown, shown, answered}
 
 pub printed-as : {new new' old out : List ℕ} {r : ℕ} → new ≡ new' → Printed new old out r → Printed new' old out r
 printed-as {old = old} {out = out} {r = r} e p = subst (λ (b : List ℕ). Printed b old out r) e p

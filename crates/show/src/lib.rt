@@ -4,14 +4,11 @@ ghost use mathlib.Core.Path.{_≡_};
 ghost use Prim.Native.Nat.{_≤_};
 ghost use lib.ListN.{length, take};
 ghost use Rattle.meaning.specs.Answer.{limits, refusalOf};
-ghost use Rattle.listing.specs.Listing.{listed, refusedLine};
+ghost use Rattle.meaning.specs.Printed.{listed, refusedLine};
 ghost use Rattle.listing.specs.Written.{Printed, room};
-ghost use Rattle.show.specs.Shown.{Long, front, cleanShown, shown, answered};
-
-mod refusal; // refusal.rt: a refusal's number and row
-
-use cleaner::Cleaned;
+ghost use Rattle.meaning.specs.Shown.{Long, front, cleanShown, shown, answered};
 use meaning::Refusal;
+use meaning::Tabled;
 use stored::ReadAnswer;
 use stored::Rows;
 
@@ -20,9 +17,8 @@ fn refused(x: Refusal, out: &mut [u8]) -> usize
     requires { ⌜ 40 ≤ length (now out) ⌝ }
     ensures { λ r. ⌜ Printed (refusedLine (refusalOf x .number) (refusalOf x .row)) (now (out .entry)) (now (out .exit)) r ⌝ }
 {
-    let number = refusal::number_of(x);
-    let row = refusal::row_of(x);
-    listing::refused_line(number, row, out)
+    let t = meaning::tell(x);
+    listing::refused_line(t.number, t.row, out)
 }
 
 // The listing of so many rows of each table and of the node map.
@@ -128,7 +124,7 @@ fn clean_and_list(
         &mut out_map,
     );
     match answer {
-        Cleaned::Done {
+        Tabled::Done {
             nodes,
             edges,
             sites,
@@ -154,7 +150,7 @@ fn clean_and_list(
             birth.len(),
             out,
         ),
-        Cleaned::Refused(x) => refused(x, out),
+        Tabled::Refused(x) => refused(x, out),
     }
 }
 

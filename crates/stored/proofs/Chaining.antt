@@ -9,7 +9,7 @@ use lib.Dec.{ltb}
 use lib.ListN.{length}
 use Rattle.meaning.specs.Answer.{Answer, answer, limits, refuse, refusalOf}
 use Rattle.meaning.specs.declared.Refusal.{Refusal}
-use Rattle.stored.specs.Stored.{Kind, isMark, whole, size, rowsAt, after, stopThen, kindThen, endThen, kindsThen, form, formThen, kinds}
+use Rattle.meaning.specs.Stored.{Kind, isMark, whole, size, rowsAt, after, stopThen, kindThen, endThen, kindsThen, form, formThen, kinds}
 use Rattle.stored.specs.Refusals.{refuse-no, refuse-yes}
 use Rattle.stored.specs.Posts.{Stretched, Stepped, EndScanned, KindsScanned, Scanned}
 use Rattle.stored.specs.declared.Stretch.{Stretch}

@@ -11,7 +11,7 @@ use lib.Seq.{drop-cons, set-at}
 use Rattle.meaning.specs.Words.{at, rows, rowsFrom}
 use Rattle.meaning.specs.Answer.{put}
 use Rattle.laws.specs.Counting.{length-rows}
-use Rattle.stored.specs.Stored.{number}
+use Rattle.meaning.specs.Stored.{number}
 use Rattle.stored.specs.Posts.{Fields, Records}
 
 -- ---- a number by its bytes

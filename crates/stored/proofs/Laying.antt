@@ -9,7 +9,7 @@ use native.Mathlib.Omega.{arith}
 use lib.ListN.{length, take, drop, set, length-append, length-take, length-drop, take-append-drop}
 use lib.Seq.{set-split, take-at, drop-at, drop-drop, length-take-le}
 use Rattle.meaning.specs.Answer.{put}
-use Rattle.stored.specs.Stored.{Kind, bytesOf, size, recordAt, recordsFrom}
+use Rattle.meaning.specs.Stored.{Kind, bytesOf, size, recordAt, recordsFrom}
 use Rattle.stored.specs.Records.{length-record}
 use Rattle.stored.specs.Posts.{lay}
 

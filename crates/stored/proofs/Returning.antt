@@ -12,8 +12,8 @@ use Rattle.meaning.specs.Lent.{countsBy, cellsBy}
 use Rattle.meaning.specs.declared.Refusal.{Refusal}
 use Rattle.meaning.specs.declared.Refusal.the-variants.{Ragged, TooMany, Length, BirthRepeated, EdgeBroken, EdgeOrder, EdgeShared, SiteBroken, MutationBroken, MutationAbove, SampleUnknown, SampleRepeated, NoRoom, BatchRagged, BatchTooMany, BatchBirth, BatchEdge, BatchShared, BatchMutation, BatchAbove, MarkWrong, BytesEnd, BytesFollow, RowsOver, EdgeWide, MutationWide, NoSite, NoBirth}
 use Rattle.laws.specs.Counting.{length-rows}
-use Rattle.stored.specs.Stored.{Kind, number, whole, form, formThen, kinds, SA, ND, ED, SI, MU, size, total, rowsAt, after, columns, tablesFrom}
-use Rattle.stored.specs.Calls.{Reading, ifDone, handed, roomAnswer, reading, tablesIn, samplesIn, found, nodesFrom, edgesFrom, sitesFrom, mutsFrom}
+use Rattle.meaning.specs.Stored.{Kind, number, whole, form, formThen, kinds, SA, ND, ED, SI, MU, size, total, rowsAt, after, columns, tablesFrom}
+use Rattle.meaning.specs.Files.{Reading, ifDone, handed, roomAnswer, reading, tablesIn, samplesIn, found, nodesFrom, edgesFrom, sitesFrom, mutsFrom}
 use Rattle.stored.specs.Admitted.{Within}
 use Rattle.stored.specs.RoundTrip.{found-within}
 use Rattle.stored.specs.Posts.{Stretched, Found, Scanned, Records}

@@ -11,7 +11,7 @@ use lib.Dec.{eqb, leb, ltb}
 use lib.ListN.{length}
 use Rattle.meaning.specs.Words.{and, at}
 use Rattle.meaning.specs.Answer.{Answer, answer, refuse}
-use Rattle.stored.specs.Stored.{isMark, whole, stopThen, endThen}
+use Rattle.meaning.specs.Stored.{isMark, whole, stopThen, endThen}
 use Rattle.stored.specs.Refusals.{refuse-no, refuse-yes}
 use Rattle.stored.specs.Marks.{Marked, marked, whole-more, whole-unmarked, whole-cut, whole-none, whole-within}
 use Rattle.stored.specs.Posts.{Stretched}

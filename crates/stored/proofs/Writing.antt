@@ -14,8 +14,8 @@ use Rattle.meaning.specs.Check.{shapes, sizes, tooMany}
 use Rattle.meaning.specs.declared.Refusal.{Refusal}
 use Rattle.meaning.specs.declared.Refusal.the-variants.{Ragged, TooMany, NoRoom, EdgeWide, MutationWide}
 use Rattle.laws.specs.Counting.{none-passes}
-use Rattle.stored.specs.Stored.{SA, ND, ED, SI, MU, kinds, form, size, total, bytesOf, recordsFrom, height, kindsBytes, formBytes}
-use Rattle.stored.specs.Calls.{Writing, ifDone, filed, tooWide, written, writeAnswer, laid, writing}
+use Rattle.meaning.specs.Stored.{SA, ND, ED, SI, MU, kinds, form, size, total, bytesOf, recordsFrom, height, kindsBytes, formBytes}
+use Rattle.meaning.specs.Files.{Writing, ifDone, filed, tooWide, written, writeAnswer, laid, writing}
 use Rattle.stored.specs.Numbers.{length-bytes}
 use Rattle.stored.specs.Refusals.{even-head, shape-even, refuse-no, refuse-yes, row-no}
 use Rattle.stored.specs.Admitted.{Shaped, Within, Narrow, shapes-pass, write-sized, write-passes}

@@ -1,6 +1,4 @@
--- 01's stored form: what the bytes mean, the calls, and that nothing is lost on the way.
-pub mod Stored
-pub mod Calls
+-- 01's stored form: laws of the bytes, of what is read and written, and that nothing is lost on the way.
 pub mod Posts
 pub mod Refusals
 pub mod Numbers

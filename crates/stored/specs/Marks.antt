@@ -12,7 +12,7 @@ use lib.ListN.{length, drop, length-drop}
 use lib.Seq.{drop-cons}
 use Rattle.meaning.specs.Words.{and, at}
 use Rattle.laws.specs.Bools.{clash, and-of, and-yes}
-use Rattle.stored.specs.Stored.{isMark, whole}
+use Rattle.meaning.specs.Stored.{isMark, whole}
 use Rattle.stored.specs.Numbers.{at-front, drop-front}
 
 -- ---- a mark

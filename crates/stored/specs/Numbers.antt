@@ -8,7 +8,7 @@ use native.Mathlib.Omega.{arith}
 use lib.ListN.{length, getD, take, drop}
 use lib.Seq.{drop-cons, getD-drop}
 use Rattle.meaning.specs.Words.{at}
-use Rattle.stored.specs.Stored.{number, bytesOf}
+use Rattle.meaning.specs.Stored.{number, bytesOf}
 
 -- every cell is a byte
 abbrev pub Bytes : List ℕ → Type 0

@@ -5,8 +5,8 @@ use mathlib.Core.List.{List, [], _∷_, _++_}
 use Prim.Native.Nat.{ℕ, _+_, _*_, _<_, _≤_}
 use lib.ListN.{length, take, drop}
 use Rattle.meaning.specs.Answer.{Answer, limits, refusalOf}
-use Rattle.stored.specs.Stored.{SA, ND, ED, SI, MU, kinds, form, isMark, whole, rowsAt, after, stopThen, kindsThen, endThen, formThen}
-use Rattle.stored.specs.Calls.{nodesFrom, edgesFrom, sitesFrom, mutsFrom}
+use Rattle.meaning.specs.Stored.{SA, ND, ED, SI, MU, kinds, form, isMark, whole, rowsAt, after, stopThen, kindsThen, endThen, formThen}
+use Rattle.meaning.specs.Files.{nodesFrom, edgesFrom, sitesFrom, mutsFrom}
 use Rattle.stored.specs.declared.Stretch.{Stretch}
 use Rattle.stored.specs.declared.Layout.{Layout}
 use Rattle.stored.specs.declared.Step.{Step}

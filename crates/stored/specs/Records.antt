@@ -9,7 +9,7 @@ use lib.ListN.{length, getD, take, drop, length-append, length-drop, take-append
 use lib.Seq.{ext-getD, take-add, drop-drop, drop-at}
 use Rattle.meaning.specs.Words.{at, rows}
 use Rattle.laws.specs.Counting.{length-rows, get-rows, rows-at}
-use Rattle.stored.specs.Stored.{Kind, number, bytesOf, isMark, total, size, columns, fieldsAt, recordAt, recordsFrom}
+use Rattle.meaning.specs.Stored.{Kind, number, bytesOf, isMark, total, size, columns, fieldsAt, recordAt, recordsFrom}
 use Rattle.stored.specs.Numbers.{Bytes, length-bytes, number-written, bytes-read}
 use Rattle.stored.specs.Marks.{Marked, marked, marked-front, front-mark}
 

@@ -4,7 +4,7 @@ ghost use Prim.Native.Nat.{ℕ, _+_, _*_, _<_, _≤_};
 ghost use lib.ListN.{length};
 ghost use Rattle.meaning.specs.Words.{rows};
 ghost use Rattle.meaning.specs.Answer.{put};
-ghost use Rattle.stored.specs.Stored.{number};
+ghost use Rattle.meaning.specs.Stored.{number};
 ghost use Rattle.stored.specs.Posts.{Fields, Records};
 
 fn wide(b: u8) -> u32

@@ -4,7 +4,7 @@ ghost use mathlib.Core.List.{List, [], _∷_};
 ghost use Prim.Native.Nat.{ℕ, _+_, _*_, _<_, _≤_};
 ghost use lib.ListN.{length};
 ghost use Rattle.meaning.specs.Answer.{limits};
-ghost use Rattle.stored.specs.Stored.{SA, ND, ED, SI, MU, bytesOf, recordAt, recordsFrom};
+ghost use Rattle.meaning.specs.Stored.{SA, ND, ED, SI, MU, bytesOf, recordAt, recordsFrom};
 ghost use Rattle.stored.specs.Posts.{lay};
 
 pub fn put8(at: usize, v: u8, out: &mut [u8])

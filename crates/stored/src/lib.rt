@@ -1,7 +1,7 @@
 // Reading and writing 01's stored form. What the bytes mean is in specs/.
 ghost use mathlib.Core.Path.{_≡_};
 ghost use Rattle.meaning.specs.Answer.{limits};
-ghost use Rattle.stored.specs.Calls.{reading, writing};
+ghost use Rattle.meaning.specs.Files.{reading, writing};
 ghost use Rattle.stored.specs.Answers.{readOf, writtenOf};
 
 mod fill; // fill.rt: columns filled from the records

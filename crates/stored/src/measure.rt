@@ -3,7 +3,7 @@ ghost use mathlib.Core.Path.{_≡_};
 ghost use Prim.Native.Nat.{min, _+_, _*_, _≤_};
 ghost use lib.ListN.{length};
 ghost use Rattle.meaning.specs.Words.{lowest};
-ghost use Rattle.stored.specs.Calls.{tooWide};
+ghost use Rattle.meaning.specs.Files.{tooWide};
 ghost use Rattle.stored.specs.Answers.{Ample, Lacking, Uneven, mostRows};
 use crate::Fault;
 use crate::Layout;

@@ -2,7 +2,7 @@
 ghost use mathlib.Core.Path.{_≡_};
 ghost use Prim.Native.Nat.{ℕ, _+_, _*_, _<_, _≤_};
 ghost use lib.ListN.{length};
-ghost use Rattle.stored.specs.Stored.{isMark};
+ghost use Rattle.meaning.specs.Stored.{isMark};
 ghost use Rattle.stored.specs.Posts.{Stretched, Stepped, KindsScanned, Scanned, EndScanned};
 use crate::Layout;
 use crate::Scan;

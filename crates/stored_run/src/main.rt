@@ -84,18 +84,8 @@ fn refusal(number: u64, row: usize) -> Seen {
 }
 
 fn refused(x: Refusal) -> Seen {
-    match x {
-        Refusal::Ragged(t) => refusal(1, t),
-        Refusal::TooMany(t) => refusal(2, t),
-        Refusal::NoRoom(t) => refusal(13, t),
-        Refusal::MarkWrong(o) => refusal(31, o),
-        Refusal::BytesEnd(o) => refusal(32, o),
-        Refusal::BytesFollow(o) => refusal(33, o),
-        Refusal::RowsOver(o) => refusal(34, o),
-        Refusal::EdgeWide(r) => refusal(35, r),
-        Refusal::MutationWide(r) => refusal(36, r),
-        _ => refusal(99, 0),
-    }
+    let t = meaning::tell(x);
+    refusal(t.number, t.row)
 }
 
 fn answered(r: ReadAnswer) -> Seen {

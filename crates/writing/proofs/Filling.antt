@@ -10,6 +10,7 @@ use lib.Seq.{length-take-le, getD-take, getD-drop, getD-append-add, set-getD}
 use borrow.Author.Tests.{lt-ltb, le-ltb}
 use Rattle.meaning.specs.Words.{at}
 use Rattle.meaning.specs.Answer.{put}
+use Rattle.laws.specs.Members.{at-map}
 use Rattle.keeping.specs.Fronts.{put-none}
 use Rattle.keeping.proofs.Cells.{front-more, front-all}
 use Rattle.order.specs.Order.{Inside}
@@ -56,11 +57,6 @@ module _ (l old : List ℕ) where
     fill-end h = front-all l old out i h (f .front)
 
 -- ---- the cells that a column has at the first k rows of another
-
-at-map : (f : ℕ → ℕ) (l : List ℕ) (i : ℕ) → i < length l → at (map f l) i ≡ f (at l i)
-at-map f [] i h = absurd (omega arith)
-at-map f (a ∷ l) zero h = refl
-at-map f (a ∷ l) (suc i) h = at-map f l i (omega arith)
 
 module _ (f : ℕ → ℕ) (rows : List ℕ) (k : ℕ) (h : k ≤ length rows) where
   pub made-long : length (map f (take k rows)) ≡ k

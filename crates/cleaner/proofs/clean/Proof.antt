@@ -1,8 +1,4 @@
--- `cleaner::clean` meets its contract: a block of four cells is never short.
-use mathlib.Core.Path.{_∙_}
-use Rattle.meaning.specs.Forest.{stands}
-use Rattle.meaning.specs.Answer.{limits}
-use Rattle.meaning.specs.Called.{cleaning-to}
+-- `cleaner::clean` meets its contract: the case of a block of four cells.
 use native.Mathlib.Omega.{arith}
 use borrow.Author.Needs.{needs}
 use Rattle.cleaner.proofs.clean.Statement.{statement}
@@ -48,7 +44,7 @@ same-length-12 : tie.Need-same-length-12
 same-length-12 c = search needs
 
 returns : tie.Need-returns
-returns c = c .before .before .before .before .before .before .before .before .before .before .before .before .before .before .before .before .before .before .before .before .before .before .before .before .clean-within .ensures ∙ cleaning-to stands limits _ _ _ _ _
+returns c = c .before .before .before .before .before .before .before .before .before .before .before .before .before .before .before .before .before .before .before .before .before .before .before .before .clean-within .ensures
 
 pub clean-spec : {M : Type 1} → statement M
 clean-spec =

@@ -1,6 +1,4 @@
--- `joiner::join` meets its contract: a block of four cells changes nothing.
-use mathlib.Core.Path.{_∙_}
-use Rattle.meaning.specs.Called.{joining-to}
+-- `joiner::join` meets its contract: the case of a block of four cells.
 use native.Mathlib.Omega.{arith}
 use borrow.Author.Needs.{needs}
 use Rattle.joiner.proofs.join.Statement.{statement}
@@ -43,7 +41,7 @@ same-length-11 : tie.Need-same-length-11
 same-length-11 c = c .before .before .before .before .before .before .before .before .before .before .before .before .before .before .before .before .before .before .before .before .before .before .join-within .kept .1 .1 .1 .1 .1 .1 .1 .1 .1 .1 .1 .1 .1 .1 .1 .1 .1 .1 .1 .1 .1 .1 .1 .1 .1 .1 .1 .1 .1 .1 .1 .0
 
 returns : tie.Need-returns
-returns c = c .before .before .before .before .before .before .before .before .before .before .before .before .before .before .before .before .before .before .before .before .before .before .join-within .ensures ∙ joining-to _ _ _ _ _
+returns c = c .before .before .before .before .before .before .before .before .before .before .before .before .before .before .before .before .before .before .before .before .before .before .join-within .ensures
 
 pub join-spec : {M : Type 1} → statement M
 join-spec =

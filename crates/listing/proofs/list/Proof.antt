@@ -4,7 +4,7 @@ use mathlib.Core.List.{[], _∷_, _++_}
 use Prim.Native.Nat.{_+_, _≤_}
 use lib.ListN.{length}
 use Rattle.meaning.specs.Rows.{Tables}
-use Rattle.listing.specs.Listing.{numbers, lines, nodeLine, edgeLine, siteLine, mutationLine, mapLine}
+use Rattle.meaning.specs.Printed.{numbers, lines, nodeLine, edgeLine, siteLine, mutationLine, mapLine}
 use Rattle.listing.proofs.Bounds.{Narrow, from-nodes, from-edges, from-sites, from-mutations, listed-pieces, listed-most}
 use Rattle.listing.proofs.Writing.{wrote-then, wrote-as, wrote-front, room-first, room-then}
 use native.Mathlib.Omega.{arith}

@@ -3,7 +3,7 @@ use mathlib.Core.Path.{sym, ap}
 use mathlib.Core.List.{[], _∷_, _++_}
 use Prim.Native.Nat.{_+_, _≤_}
 use lib.ListN.{length}
-use Rattle.listing.specs.Listing.{decimal}
+use Rattle.meaning.specs.Printed.{decimal}
 use Rattle.listing.proofs.Bounds.{refused-most}
 use Rattle.listing.proofs.Pieces.{refused, refused-pieces}
 use Rattle.listing.proofs.Writing.{wrote-then, wrote-as, wrote-front, room-first, room-then}

@@ -1,5 +1,5 @@
 -- `listing::too_long` meets its contract: the bytes of the line. Assumes nothing.
-use Rattle.listing.specs.Listing.{rest, line, tooLong}
+use Rattle.meaning.specs.Printed.{rest, line, tooLong}
 use Rattle.listing.proofs.Writing.{wrote-front}
 use borrow.Author.Needs.{needs}
 use Rattle.listing.proofs.too_long.Statement.{statement}

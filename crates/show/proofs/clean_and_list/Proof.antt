@@ -8,9 +8,9 @@ use Rattle.meaning.specs.Forest.{stands}
 use Rattle.meaning.specs.Answer.{done, limits}
 use Rattle.meaning.specs.Lent.{Counts}
 use Rattle.meaning.specs.Clean.{cleaning}
-use Rattle.cleaner.specs.Outcome.{outcomeOf, nothing}
-use Rattle.cleaner.specs.declared.Cleaned.{Cleaned}
-use Rattle.show.specs.Shown.{zeros, blank}
+use Rattle.cleaner.specs.Outcome.{outcomeOf, no-rows-written}
+use Rattle.meaning.specs.declared.Tabled.{Tabled}
+use Rattle.meaning.specs.Shown.{zeros, blank}
 use Rattle.show.proofs.Printing.{printed-as, clean-listed, clean-refused}
 use Rattle.show.proofs.Keeping.{Listable, clean-listable, listing-room}
 use native.Mathlib.Omega.{arith}
@@ -105,7 +105,7 @@ list-rows-requires c κs =
     let cells : Tables = record { nodes = record { time = c .before .before .before .before .before .before .before .before .before .before .before .before .before .before .before .before .before .before .before .before .before .before .before .before .before .before .before .before .clean .last .1 .1 .1 .1 .1 .1 .1 .1 .1 .1 .1 .1 .1 .0; birth = c .before .before .before .before .before .before .before .before .before .before .before .before .before .before .before .before .before .before .before .before .before .before .before .before .before .before .before .before .clean .last .1 .1 .1 .1 .1 .1 .1 .1 .1 .1 .1 .1 .1 .1 .0 }; edges = record { left = c .before .before .before .before .before .before .before .before .before .before .before .before .before .before .before .before .before .before .before .before .before .before .before .before .before .before .before .before .clean .last .1 .1 .1 .1 .1 .1 .1 .1 .1 .1 .1 .1 .1 .1 .1 .0; right = c .before .before .before .before .before .before .before .before .before .before .before .before .before .before .before .before .before .before .before .before .before .before .before .before .before .before .before .before .clean .last .1 .1 .1 .1 .1 .1 .1 .1 .1 .1 .1 .1 .1 .1 .1 .1 .0; parent = c .before .before .before .before .before .before .before .before .before .before .before .before .before .before .before .before .before .before .before .before .before .before .before .before .before .before .before .before .clean .last .1 .1 .1 .1 .1 .1 .1 .1 .1 .1 .1 .1 .1 .1 .1 .1 .1 .0; child = c .before .before .before .before .before .before .before .before .before .before .before .before .before .before .before .before .before .before .before .before .before .before .before .before .before .before .before .before .clean .last .1 .1 .1 .1 .1 .1 .1 .1 .1 .1 .1 .1 .1 .1 .1 .1 .1 .1 .0 }; sites = record { position = c .before .before .before .before .before .before .before .before .before .before .before .before .before .before .before .before .before .before .before .before .before .before .before .before .before .before .before .before .clean .last .1 .1 .1 .1 .1 .1 .1 .1 .1 .1 .1 .1 .1 .1 .1 .1 .1 .1 .1 .0; ancestral = c .before .before .before .before .before .before .before .before .before .before .before .before .before .before .before .before .before .before .before .before .before .before .before .before .before .before .before .before .clean .last .1 .1 .1 .1 .1 .1 .1 .1 .1 .1 .1 .1 .1 .1 .1 .1 .1 .1 .1 .1 .0 }; muts = record { site = c .before .before .before .before .before .before .before .before .before .before .before .before .before .before .before .before .before .before .before .before .before .before .before .before .before .before .before .before .clean .last .1 .1 .1 .1 .1 .1 .1 .1 .1 .1 .1 .1 .1 .1 .1 .1 .1 .1 .1 .1 .1 .0; node = c .before .before .before .before .before .before .before .before .before .before .before .before .before .before .before .before .before .before .before .before .before .before .before .before .before .before .before .before .clean .last .1 .1 .1 .1 .1 .1 .1 .1 .1 .1 .1 .1 .1 .1 .1 .1 .1 .1 .1 .1 .1 .1 .0; derived = c .before .before .before .before .before .before .before .before .before .before .before .before .before .before .before .before .before .before .before .before .before .before .before .before .before .before .before .before .clean .last .1 .1 .1 .1 .1 .1 .1 .1 .1 .1 .1 .1 .1 .1 .1 .1 .1 .1 .1 .1 .1 .1 .1 .0 } } in
     let nodemap : List ℕ = c .before .before .before .before .before .before .before .before .before .before .before .before .before .before .before .before .before .before .before .before .before .before .before .before .before .before .before .before .clean .last .1 .1 .1 .1 .1 .1 .1 .1 .1 .1 .1 .1 .1 .1 .1 .1 .1 .1 .1 .1 .1 .1 .1 .1 .0 in
     let n : Counts = record { nodes = c .before .before .before .before .before .before .before .before .before .before .before .before .before .before .answer .given .0 .0; edges = c .before .before .before .before .before .before .before .before .before .before .before .before .before .before .answer .given .0 .1 .0; sites = c .before .before .before .before .before .before .before .before .before .before .before .before .before .before .answer .given .0 .1 .1 .0; mutations = c .before .before .before .before .before .before .before .before .before .before .before .before .before .before .answer .given .0 .1 .1 .1 .0 } in
-    let e : record { answer = done; counts = n; cells = cells; map = nodemap } ≡ cleaning stands limits L T S blank (zeros (limits .nodes)) = ap (λ (a : Cleaned). outcomeOf a cells nodemap) (sym (c .before .before .before .before .before .before .before .before .before .before .before .before .before .before .answer .given .1)) ∙ c .before .before .before .before .before .before .before .before .before .before .before .before .before .before .before .before .before .before .before .before .before .before .before .before .before .before .before .before .clean .ensures in
+    let e : record { answer = done; counts = n; cells = cells; map = nodemap } ≡ cleaning stands limits L T S blank (zeros (limits .nodes)) = ap (λ (a : Tabled). outcomeOf a cells nodemap) (sym (c .before .before .before .before .before .before .before .before .before .before .before .before .before .before .answer .given .1)) ∙ c .before .before .before .before .before .before .before .before .before .before .before .before .before .before .before .before .before .before .before .before .before .before .before .before .before .before .before .before .clean .ensures in
     let f : Listable n cells (length (T .nodes .birth)) nodemap = clean-listable L T S blank (zeros (limits .nodes)) n cells nodemap e in
     (f .long, f .rows-long, listing-room n (length (T .nodes .birth)) (length (c .before .before .before .before .before .before .before .before .before .before .before .before .before .before .before .before .before .before .before .before .before .before .before .before .before .before .before .before .before .before .before .before .before .before .before .before .before .before .before .before .before .before .before .before .before .before .before .before .before .before .before .before .before .before .args .out .now)) (f .few) (f .rows-few) (c .before .before .before .before .before .before .before .before .before .before .before .before .before .before .before .before .before .before .before .before .before .before .before .before .before .before .before .before .before .before .before .before .before .before .before .before .before .before .before .before .before .before .before .before .before .before .before .before .before .before .before .before .before .before .pre))
 
@@ -127,7 +127,7 @@ returns c =
     let cells : Tables = record { nodes = record { time = c .before .before .before .before .before .before .before .before .before .before .before .before .before .before .before .before .before .before .before .before .before .before .before .before .before .before .before .before .before .before .before .clean .last .1 .1 .1 .1 .1 .1 .1 .1 .1 .1 .1 .1 .1 .0; birth = c .before .before .before .before .before .before .before .before .before .before .before .before .before .before .before .before .before .before .before .before .before .before .before .before .before .before .before .before .before .before .before .clean .last .1 .1 .1 .1 .1 .1 .1 .1 .1 .1 .1 .1 .1 .1 .0 }; edges = record { left = c .before .before .before .before .before .before .before .before .before .before .before .before .before .before .before .before .before .before .before .before .before .before .before .before .before .before .before .before .before .before .before .clean .last .1 .1 .1 .1 .1 .1 .1 .1 .1 .1 .1 .1 .1 .1 .1 .0; right = c .before .before .before .before .before .before .before .before .before .before .before .before .before .before .before .before .before .before .before .before .before .before .before .before .before .before .before .before .before .before .before .clean .last .1 .1 .1 .1 .1 .1 .1 .1 .1 .1 .1 .1 .1 .1 .1 .1 .0; parent = c .before .before .before .before .before .before .before .before .before .before .before .before .before .before .before .before .before .before .before .before .before .before .before .before .before .before .before .before .before .before .before .clean .last .1 .1 .1 .1 .1 .1 .1 .1 .1 .1 .1 .1 .1 .1 .1 .1 .1 .0; child = c .before .before .before .before .before .before .before .before .before .before .before .before .before .before .before .before .before .before .before .before .before .before .before .before .before .before .before .before .before .before .before .clean .last .1 .1 .1 .1 .1 .1 .1 .1 .1 .1 .1 .1 .1 .1 .1 .1 .1 .1 .0 }; sites = record { position = c .before .before .before .before .before .before .before .before .before .before .before .before .before .before .before .before .before .before .before .before .before .before .before .before .before .before .before .before .before .before .before .clean .last .1 .1 .1 .1 .1 .1 .1 .1 .1 .1 .1 .1 .1 .1 .1 .1 .1 .1 .1 .0; ancestral = c .before .before .before .before .before .before .before .before .before .before .before .before .before .before .before .before .before .before .before .before .before .before .before .before .before .before .before .before .before .before .before .clean .last .1 .1 .1 .1 .1 .1 .1 .1 .1 .1 .1 .1 .1 .1 .1 .1 .1 .1 .1 .1 .0 }; muts = record { site = c .before .before .before .before .before .before .before .before .before .before .before .before .before .before .before .before .before .before .before .before .before .before .before .before .before .before .before .before .before .before .before .clean .last .1 .1 .1 .1 .1 .1 .1 .1 .1 .1 .1 .1 .1 .1 .1 .1 .1 .1 .1 .1 .1 .0; node = c .before .before .before .before .before .before .before .before .before .before .before .before .before .before .before .before .before .before .before .before .before .before .before .before .before .before .before .before .before .before .before .clean .last .1 .1 .1 .1 .1 .1 .1 .1 .1 .1 .1 .1 .1 .1 .1 .1 .1 .1 .1 .1 .1 .1 .0; derived = c .before .before .before .before .before .before .before .before .before .before .before .before .before .before .before .before .before .before .before .before .before .before .before .before .before .before .before .before .before .before .before .clean .last .1 .1 .1 .1 .1 .1 .1 .1 .1 .1 .1 .1 .1 .1 .1 .1 .1 .1 .1 .1 .1 .1 .1 .0 } } in
     let nodemap : List ℕ = c .before .before .before .before .before .before .before .before .before .before .before .before .before .before .before .before .before .before .before .before .before .before .before .before .before .before .before .before .before .before .before .clean .last .1 .1 .1 .1 .1 .1 .1 .1 .1 .1 .1 .1 .1 .1 .1 .1 .1 .1 .1 .1 .1 .1 .1 .1 .0 in
     let n : Counts = record { nodes = c .before .before .before .before .before .before .before .before .before .before .before .before .before .before .before .before .before .answer .given .0 .0; edges = c .before .before .before .before .before .before .before .before .before .before .before .before .before .before .before .before .before .answer .given .0 .1 .0; sites = c .before .before .before .before .before .before .before .before .before .before .before .before .before .before .before .before .before .answer .given .0 .1 .1 .0; mutations = c .before .before .before .before .before .before .before .before .before .before .before .before .before .before .before .before .before .answer .given .0 .1 .1 .1 .0 } in
-    printed-as (clean-listed L T S n cells nodemap (ap (λ (a : Cleaned). outcomeOf a cells nodemap) (sym (c .before .before .before .before .before .before .before .before .before .before .before .before .before .before .before .before .before .answer .given .1)) ∙ c .before .before .before .before .before .before .before .before .before .before .before .before .before .before .before .before .before .before .before .before .before .before .before .before .before .before .before .before .before .before .before .clean .ensures)) (c .before .before .list-rows .ensures)
+    printed-as (clean-listed L T S n cells nodemap (ap (λ (a : Tabled). outcomeOf a cells nodemap) (sym (c .before .before .before .before .before .before .before .before .before .before .before .before .before .before .before .before .before .answer .given .1)) ∙ c .before .before .before .before .before .before .before .before .before .before .before .before .before .before .before .before .before .before .before .before .before .before .before .before .before .before .before .before .before .before .before .clean .ensures)) (c .before .before .list-rows .ensures)
 
 same-length-2 : tie.Need-same-length-2
 same-length-2 c = search needs
@@ -140,7 +140,7 @@ returns-2 c =
     let S : List ℕ = c .before .before .before .before .before .before .before .before .before .before .before .before .before .before .before .before .before .before .before .before .before .before .before .before .before .before .before .before .before .before .before .before .before .before .before .before .before .before .before .before .before .before .before .before .before .args .samples .now in
     let cells : Tables = record { nodes = record { time = c .before .before .before .before .before .before .before .before .before .before .before .before .before .before .before .before .before .before .before .clean .last .1 .1 .1 .1 .1 .1 .1 .1 .1 .1 .1 .1 .1 .0; birth = c .before .before .before .before .before .before .before .before .before .before .before .before .before .before .before .before .before .before .before .clean .last .1 .1 .1 .1 .1 .1 .1 .1 .1 .1 .1 .1 .1 .1 .0 }; edges = record { left = c .before .before .before .before .before .before .before .before .before .before .before .before .before .before .before .before .before .before .before .clean .last .1 .1 .1 .1 .1 .1 .1 .1 .1 .1 .1 .1 .1 .1 .1 .0; right = c .before .before .before .before .before .before .before .before .before .before .before .before .before .before .before .before .before .before .before .clean .last .1 .1 .1 .1 .1 .1 .1 .1 .1 .1 .1 .1 .1 .1 .1 .1 .0; parent = c .before .before .before .before .before .before .before .before .before .before .before .before .before .before .before .before .before .before .before .clean .last .1 .1 .1 .1 .1 .1 .1 .1 .1 .1 .1 .1 .1 .1 .1 .1 .1 .0; child = c .before .before .before .before .before .before .before .before .before .before .before .before .before .before .before .before .before .before .before .clean .last .1 .1 .1 .1 .1 .1 .1 .1 .1 .1 .1 .1 .1 .1 .1 .1 .1 .1 .0 }; sites = record { position = c .before .before .before .before .before .before .before .before .before .before .before .before .before .before .before .before .before .before .before .clean .last .1 .1 .1 .1 .1 .1 .1 .1 .1 .1 .1 .1 .1 .1 .1 .1 .1 .1 .1 .0; ancestral = c .before .before .before .before .before .before .before .before .before .before .before .before .before .before .before .before .before .before .before .clean .last .1 .1 .1 .1 .1 .1 .1 .1 .1 .1 .1 .1 .1 .1 .1 .1 .1 .1 .1 .1 .0 }; muts = record { site = c .before .before .before .before .before .before .before .before .before .before .before .before .before .before .before .before .before .before .before .clean .last .1 .1 .1 .1 .1 .1 .1 .1 .1 .1 .1 .1 .1 .1 .1 .1 .1 .1 .1 .1 .1 .0; node = c .before .before .before .before .before .before .before .before .before .before .before .before .before .before .before .before .before .before .before .clean .last .1 .1 .1 .1 .1 .1 .1 .1 .1 .1 .1 .1 .1 .1 .1 .1 .1 .1 .1 .1 .1 .1 .0; derived = c .before .before .before .before .before .before .before .before .before .before .before .before .before .before .before .before .before .before .before .clean .last .1 .1 .1 .1 .1 .1 .1 .1 .1 .1 .1 .1 .1 .1 .1 .1 .1 .1 .1 .1 .1 .1 .1 .0 } } in
     let nodemap : List ℕ = c .before .before .before .before .before .before .before .before .before .before .before .before .before .before .before .before .before .before .before .clean .last .1 .1 .1 .1 .1 .1 .1 .1 .1 .1 .1 .1 .1 .1 .1 .1 .1 .1 .1 .1 .1 .1 .1 .1 .0 in
-    printed-as (clean-refused L T S nothing cells nodemap (c .before .before .before .before .before .answer2 .given .0 .0) (ap (λ (a : Cleaned). outcomeOf a cells nodemap) (sym (c .before .before .before .before .before .answer2 .given .1)) ∙ c .before .before .before .before .before .before .before .before .before .before .before .before .before .before .before .before .before .before .before .clean .ensures)) (c .before .before .refused .ensures)
+    printed-as (clean-refused L T S no-rows-written cells nodemap (c .before .before .before .before .before .answer2 .given .0 .0) (ap (λ (a : Tabled). outcomeOf a cells nodemap) (sym (c .before .before .before .before .before .answer2 .given .1)) ∙ c .before .before .before .before .before .before .before .before .before .before .before .before .before .before .before .before .before .before .before .clean .ensures)) (c .before .before .refused .ensures)
 
 pub clean-and-list-spec : {M : Type 1} → statement M
 clean-and-list-spec =

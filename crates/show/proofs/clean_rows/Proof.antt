@@ -1,7 +1,7 @@
 -- `show::clean_rows` meets its contract: what the columns' fronts print. Assumes nothing.
 use lib.Seq.{length-take-le}
 use mathlib.Core.Path.{sym}
-use Rattle.show.specs.Shown.{front}
+use Rattle.meaning.specs.Shown.{front}
 use borrow.Author.Needs.{needs}
 use Rattle.show.proofs.clean_rows.Statement.{statement}
 use Rattle.show.proofs.clean_rows.Tie as tie

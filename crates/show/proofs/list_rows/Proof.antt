@@ -1,7 +1,7 @@
 -- `show::list_rows` meets its contract: the listing of the columns' fronts. Assumes nothing.
 use lib.Seq.{length-take-le}
 use mathlib.Core.Path.{sym}
-use Rattle.show.specs.Shown.{front}
+use Rattle.meaning.specs.Shown.{front}
 use native.Mathlib.Omega.{arith}
 use borrow.Author.Needs.{needs}
 use Rattle.show.proofs.list_rows.Statement.{statement}

@@ -6,11 +6,11 @@ use lib.ListN.{length}
 use Rattle.meaning.specs.Rows.{Tables}
 use Rattle.meaning.specs.Answer.{done, limits}
 use Rattle.meaning.specs.Lent.{Counts}
-use Rattle.stored.specs.Calls.{reading}
+use Rattle.meaning.specs.Files.{reading}
 use Rattle.stored.specs.Answers.{readOf}
 use Rattle.stored.specs.declared.Rows.{Rows}
 use Rattle.stored.specs.declared.ReadAnswer.{ReadAnswer}
-use Rattle.show.specs.Shown.{zeros, blank, Long}
+use Rattle.meaning.specs.Shown.{zeros, blank, Long}
 use Rattle.show.proofs.Printing.{printed-as, read-listed, read-refused}
 use Rattle.show.proofs.Keeping.{read-long}
 use borrow.Author.Needs.{needs}

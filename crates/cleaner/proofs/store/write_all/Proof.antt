@@ -1,6 +1,7 @@
 -- `cleaner::store::write_all` meets its contract: one table after the other.
 use mathlib.Core.Path.{sym, ap, _∙_}
-use Rattle.cleaner.specs.Work.{written, putAll}
+use Rattle.meaning.specs.Lent.{putAll}
+use Rattle.cleaner.specs.Work.{written}
 use Rattle.cleaner.proofs.Storing.{edges-part, sites-part, mutations-part}
 use native.Mathlib.Omega.{arith}
 use borrow.Author.Needs.{needs}

@@ -3,7 +3,7 @@ use mathlib.Core.Path.{sym, ap}
 use mathlib.Core.List.{[], _∷_}
 use Prim.Native.Nat.{_+_, _/_, _%_}
 use lib.ListN.{length, length-append}
-use Rattle.listing.specs.Listing.{decimal}
+use Rattle.meaning.specs.Printed.{decimal}
 use Rattle.listing.proofs.Digits.{decimal-last, decimal-more}
 use Rattle.listing.proofs.Writing.{wrote-length, wrote-then, wrote-as}
 use native.Mathlib.Omega.{arith}

@@ -3,7 +3,7 @@ use mathlib.Core.Path.{sym}
 use mathlib.Core.List.{List, [], _∷_, _++_}
 use Prim.Native.Nat.{ℕ}
 use lib.ListN.{length}
-use Rattle.listing.specs.Listing.{lines}
+use Rattle.meaning.specs.Printed.{lines}
 use Rattle.listing.specs.Written.{spaced}
 use Rattle.listing.proofs.Going.{numbers-spaced}
 use Rattle.listing.proofs.Writing.{wrote-then, wrote-as, room-first, room-then, room-as}

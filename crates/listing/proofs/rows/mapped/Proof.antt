@@ -1,7 +1,7 @@
 -- `listing::rows::mapped` meets its contract: the pieces of the line, one after the other. Assumes nothing.
 use mathlib.Core.Path.{sym}
 use mathlib.Core.List.{[], _∷_, _++_}
-use Rattle.listing.specs.Listing.{decimal, outRow}
+use Rattle.meaning.specs.Printed.{decimal, outRow}
 use Rattle.listing.proofs.Pieces.{map-pieces}
 use Rattle.listing.proofs.Writing.{wrote-then, wrote-as, room-first, room-then, room-as}
 use borrow.Author.Needs.{needs}

@@ -1,6 +1,6 @@
 -- `listing::rows::node` meets its contract: the cells are read and written as one line. Assumes nothing.
 use mathlib.Core.Path.{sym}
-use Rattle.listing.specs.Listing.{nodeLine}
+use Rattle.meaning.specs.Printed.{nodeLine}
 use Rattle.listing.proofs.Pieces.{row-as}
 use Rattle.listing.proofs.Writing.{wrote-as, room-as}
 use borrow.Author.Needs.{needs}

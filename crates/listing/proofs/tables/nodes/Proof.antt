@@ -1,7 +1,7 @@
 -- `listing::tables::nodes` meets its contract: the loop has written the rows that it has passed. Assumes nothing.
 use Prim.Native.Nat.{_-_}
 use lib.ListN.{length}
-use Rattle.listing.specs.Listing.{nodeLine}
+use Rattle.meaning.specs.Printed.{nodeLine}
 use Rattle.listing.proofs.Going.{Going, going-start, going-room, going-more, going-end}
 use Rattle.listing.proofs.Writing.{wrote-length}
 use borrow.Author.Needs.{needs}

@@ -2,7 +2,7 @@
 use mathlib.Core.Path.{sym, ap, _∙_}
 use Prim.Native.Nat.{ℕ, _+_, _*_, _-_}
 use lib.ListN.{getD}
-use Rattle.stored.specs.Stored.{number}
+use Rattle.meaning.specs.Stored.{number}
 use Rattle.stored.proofs.Filling.{number-one, Filled, fill-start, fill-more, fill-end, field-there}
 use native.Mathlib.Omega.{arith}
 use borrow.Author.Needs.{needs}

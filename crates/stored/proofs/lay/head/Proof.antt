@@ -1,7 +1,7 @@
 -- `stored::lay::head` meets its contract: the mark and L, one after the other. Assumes nothing.
 use mathlib.Core.List.{List, [], _∷_, _++_}
 use Prim.Native.Nat.{ℕ, _+_}
-use Rattle.stored.specs.Stored.{bytesOf}
+use Rattle.meaning.specs.Stored.{bytesOf}
 use Rattle.stored.proofs.Laying.{lay-chain}
 use native.Mathlib.Omega.{arith}
 use borrow.Author.Needs.{needs}

@@ -2,7 +2,7 @@
 use mathlib.Core.Path.{sym, ap, subst, _∙_}
 use mathlib.Core.List.{List, [], _∷_, _++_}
 use Prim.Native.Nat.{ℕ, _+_, _/_, _%_, _<_}
-use Rattle.stored.specs.Stored.{bytesOf, recordAt, fieldsAt}
+use Rattle.meaning.specs.Stored.{bytesOf, recordAt, fieldsAt}
 use Rattle.stored.specs.Posts.{lay}
 use Rattle.stored.proofs.Laying.{lay-chain, bytes-one}
 use native.Mathlib.Omega.{arith}

@@ -4,7 +4,7 @@ use mathlib.Core.List.{List, [], _∷_}
 use Prim.Native.Nat.{ℕ, _-_}
 use lib.ListN.{length}
 use Rattle.meaning.specs.Answer.{limits}
-use Rattle.stored.specs.Stored.{SA, ND, ED, SI, MU, size, total, recordAt, fieldsAt}
+use Rattle.meaning.specs.Stored.{SA, ND, ED, SI, MU, size, total, recordAt, fieldsAt}
 use Rattle.stored.proofs.Laying.{Laid, laid-start, laid-room, laid-more, laid-end}
 use native.Mathlib.Omega.{arith}
 use borrow.Author.Needs.{needs}

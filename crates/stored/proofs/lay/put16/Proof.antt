@@ -2,7 +2,7 @@
 use mathlib.Core.Path.{sym, ap, subst, _∙_}
 use mathlib.Core.List.{List, [], _∷_, _++_}
 use Prim.Native.Nat.{ℕ, _+_, _/_, _%_, _<_}
-use Rattle.stored.specs.Stored.{bytesOf}
+use Rattle.meaning.specs.Stored.{bytesOf}
 use Rattle.stored.proofs.Laying.{lay-chain}
 use native.Mathlib.Omega.{arith}
 use borrow.Author.Needs.{needs}

@@ -4,8 +4,8 @@ use mathlib.Core.List.{List, [], _∷_}
 use Prim.Native.Nat.{ℕ, _≤_}
 use lib.ListN.{length}
 use Rattle.meaning.specs.Answer.{limits}
-use Rattle.stored.specs.Stored.{SA, ND, ED, SI, MU, kinds, size, total, after, kindsThen}
-use Rattle.stored.specs.Calls.{nodesFrom, edgesFrom, sitesFrom, mutsFrom}
+use Rattle.meaning.specs.Stored.{SA, ND, ED, SI, MU, kinds, size, total, after, kindsThen}
+use Rattle.meaning.specs.Files.{nodesFrom, edgesFrom, sitesFrom, mutsFrom}
 use Rattle.stored.specs.Posts.{KindsScanned}
 use Rattle.stored.specs.declared.Stretch.{Stretch}
 use Rattle.stored.proofs.Chaining.{Went, went, stopped, went-within, end-went, end-stopped}

@@ -4,13 +4,13 @@ use mathlib.Core.List.{List}
 use Prim.Native.Nat.{ℕ, _≤_}
 use lib.Dec.{ltb}
 use lib.ListN.{length, take, replicate}
 use Rattle.meaning.specs.Rows.{Tables}
 use Rattle.meaning.specs.Forest.{stands}
 use Rattle.meaning.specs.Answer.{Answer, limits, accepted}
 use Rattle.meaning.specs.Lent.{Counts}
 use Rattle.meaning.specs.Clean.{Outcome, cleaning}
-use Rattle.stored.specs.Calls.{Reading, reading}
-use Rattle.listing.specs.Listing.{listed, refusedLine, tooLong}
+use Rattle.meaning.specs.Files.{Reading, reading}
+use Rattle.meaning.specs.Printed.{listed, refusedLine, tooLong}
 
 -- "with room for every table's limit": lent columns of zeros
 unfoldable pub zeros : ℕ → List ℕ
@@ -61,7 +61,7 @@ outcomeShown L rows o = printedBy (o .answer) (listed L (front (o .counts) (o .c
 -- the tables are cleaned and listed
 unfoldable pub cleanShown : ℕ → Tables → List ℕ → List ℕ
 unfolding outcomeShown cleaning stands blank zeros
-cleanShown L T S = outcomeShown L (length (T .nodes .birth)) (cleaning stands limits L T S blank (zeros (limits .nodes)))
+cleanShown L T S = outcomeShown L (length (T .nodes .birth)) (cleaning stands limits L T S blank (zeros (limits .nodes)) 4)
 
 -- what a reading prints: the rows read, cleaned and listed
 unfoldable pub readingShown : Reading → List ℕ

@@ -4,12 +4,12 @@ use mathlib.Core.List.{List, [], _∷_}
 use Prim.Native.Nat.{ℕ, _^_}
 use lib.Dec.{leb, ltb}
 use lib.ListN.{length, getD}
 use Rattle.meaning.specs.Words.{or, at}
 use Rattle.meaning.specs.Rows.{Tables}
 use Rattle.meaning.specs.Answer.{Answer, Limits, done, refuse, refuseRow, accepted, lacks, left-by}
 use Rattle.meaning.specs.Lent.{Counts, fitThen, countsBy, cellsBy}
 use Rattle.meaning.specs.Check.{shapes, sizes, tooMany}
-use Rattle.stored.specs.Stored.{SA, ND, ED, SI, number, form, after, formThen, formBytes, tablesFrom}
+use Rattle.meaning.specs.Stored.{SA, ND, ED, SI, number, form, after, formThen, formBytes, tablesFrom}
 
 -- ---- tables 1 to 5 and the kinds' columns, in the order of the file
 

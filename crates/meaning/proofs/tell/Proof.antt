@@ -1,10 +1,9 @@
--- `show::refusal::row_of` meets its contract: in each arm the refusal is the one of that name. Assumes nothing.
+-- `meaning::tell` meets its contract: in each arm the refusal is the one of that name.
 use mathlib.Core.Path.{sym, ap}
 use Rattle.meaning.specs.Answer.{refusalOf}
-use Rattle.meaning.specs.declared.Refusal.{Refusal}
 use borrow.Author.Needs.{needs}
-use Rattle.show.proofs.refusal.row_of.Statement.{statement}
-use Rattle.show.proofs.refusal.row_of.Tie as tie
+use Rattle.meaning.proofs.tell.Statement.{statement}
+use Rattle.meaning.proofs.tell.Tie as tie
 
 enum-known-x : tie.Need-enum-known-x
 enum-known-x c = search needs
@@ -91,91 +90,91 @@ enum-told-3 : tie.Need-enum-told-3
 enum-told-3 c = search needs
 
 returns : tie.Need-returns
-returns c = sym (ap (λ (x : Refusal). refusalOf x .row) (c .before .x .given .1))
+returns c = sym (ap refusalOf (c .before .x .given .1))
 
 returns-2 : tie.Need-returns-2
-returns-2 c = sym (ap (λ (x : Refusal). refusalOf x .row) (c .before .x2 .given .1))
+returns-2 c = sym (ap refusalOf (c .before .x2 .given .1))
 
 returns-3 : tie.Need-returns-3
-returns-3 c = sym (ap (λ (x : Refusal). refusalOf x .row) (c .enum-told .given .1))
+returns-3 c = sym (ap refusalOf (c .enum-told .given .1))
 
 returns-4 : tie.Need-returns-4
-returns-4 c = sym (ap (λ (x : Refusal). refusalOf x .row) (c .before .x3 .given .1))
+returns-4 c = sym (ap refusalOf (c .before .x3 .given .1))
 
 returns-5 : tie.Need-returns-5
-returns-5 c = sym (ap (λ (x : Refusal). refusalOf x .row) (c .before .x4 .given .1))
+returns-5 c = sym (ap refusalOf (c .before .x4 .given .1))
 
 returns-6 : tie.Need-returns-6
-returns-6 c = sym (ap (λ (x : Refusal). refusalOf x .row) (c .before .x5 .given .1))
+returns-6 c = sym (ap refusalOf (c .before .x5 .given .1))
 
 returns-7 : tie.Need-returns-7
-returns-7 c = sym (ap (λ (x : Refusal). refusalOf x .row) (c .before .x6 .given .1))
+returns-7 c = sym (ap refusalOf (c .before .x6 .given .1))
 
 returns-8 : tie.Need-returns-8
-returns-8 c = sym (ap (λ (x : Refusal). refusalOf x .row) (c .before .x7 .given .1))
+returns-8 c = sym (ap refusalOf (c .before .x7 .given .1))
 
 returns-9 : tie.Need-returns-9
-returns-9 c = sym (ap (λ (x : Refusal). refusalOf x .row) (c .before .x8 .given .1))
+returns-9 c = sym (ap refusalOf (c .before .x8 .given .1))
 
 returns-10 : tie.Need-returns-10
-returns-10 c = sym (ap (λ (x : Refusal). refusalOf x .row) (c .before .x9 .given .1))
+returns-10 c = sym (ap refusalOf (c .before .x9 .given .1))
 
 returns-11 : tie.Need-returns-11
-returns-11 c = sym (ap (λ (x : Refusal). refusalOf x .row) (c .before .x10 .given .1))
+returns-11 c = sym (ap refusalOf (c .before .x10 .given .1))
 
 returns-12 : tie.Need-returns-12
-returns-12 c = sym (ap (λ (x : Refusal). refusalOf x .row) (c .before .x11 .given .1))
+returns-12 c = sym (ap refusalOf (c .before .x11 .given .1))
 
 returns-13 : tie.Need-returns-13
-returns-13 c = sym (ap (λ (x : Refusal). refusalOf x .row) (c .before .x12 .given .1))
+returns-13 c = sym (ap refusalOf (c .before .x12 .given .1))
 
 returns-14 : tie.Need-returns-14
-returns-14 c = sym (ap (λ (x : Refusal). refusalOf x .row) (c .before .x13 .given .1))
+returns-14 c = sym (ap refusalOf (c .before .x13 .given .1))
 
 returns-15 : tie.Need-returns-15
-returns-15 c = sym (ap (λ (x : Refusal). refusalOf x .row) (c .before .x14 .given .1))
+returns-15 c = sym (ap refusalOf (c .before .x14 .given .1))
 
 returns-16 : tie.Need-returns-16
-returns-16 c = sym (ap (λ (x : Refusal). refusalOf x .row) (c .before .x15 .given .1))
+returns-16 c = sym (ap refusalOf (c .before .x15 .given .1))
 
 returns-17 : tie.Need-returns-17
-returns-17 c = sym (ap (λ (x : Refusal). refusalOf x .row) (c .before .x16 .given .1))
+returns-17 c = sym (ap refusalOf (c .before .x16 .given .1))
 
 returns-18 : tie.Need-returns-18
-returns-18 c = sym (ap (λ (x : Refusal). refusalOf x .row) (c .before .x17 .given .1))
+returns-18 c = sym (ap refusalOf (c .before .x17 .given .1))
 
 returns-19 : tie.Need-returns-19
-returns-19 c = sym (ap (λ (x : Refusal). refusalOf x .row) (c .before .x18 .given .1))
+returns-19 c = sym (ap refusalOf (c .before .x18 .given .1))
 
 returns-20 : tie.Need-returns-20
-returns-20 c = sym (ap (λ (x : Refusal). refusalOf x .row) (c .before .x19 .given .1))
+returns-20 c = sym (ap refusalOf (c .before .x19 .given .1))
 
 returns-21 : tie.Need-returns-21
-returns-21 c = sym (ap (λ (x : Refusal). refusalOf x .row) (c .before .x20 .given .1))
+returns-21 c = sym (ap refusalOf (c .before .x20 .given .1))
 
 returns-22 : tie.Need-returns-22
-returns-22 c = sym (ap (λ (x : Refusal). refusalOf x .row) (c .before .x21 .given .1))
+returns-22 c = sym (ap refusalOf (c .before .x21 .given .1))
 
 returns-23 : tie.Need-returns-23
-returns-23 c = sym (ap (λ (x : Refusal). refusalOf x .row) (c .before .x22 .given .1))
+returns-23 c = sym (ap refusalOf (c .before .x22 .given .1))
 
 returns-24 : tie.Need-returns-24
-returns-24 c = sym (ap (λ (x : Refusal). refusalOf x .row) (c .before .x23 .given .1))
+returns-24 c = sym (ap refusalOf (c .before .x23 .given .1))
 
 returns-25 : tie.Need-returns-25
-returns-25 c = sym (ap (λ (x : Refusal). refusalOf x .row) (c .before .x24 .given .1))
+returns-25 c = sym (ap refusalOf (c .before .x24 .given .1))
 
 returns-26 : tie.Need-returns-26
-returns-26 c = sym (ap (λ (x : Refusal). refusalOf x .row) (c .before .x25 .given .1))
+returns-26 c = sym (ap refusalOf (c .before .x25 .given .1))
 
 returns-27 : tie.Need-returns-27
-returns-27 c = sym (ap (λ (x : Refusal). refusalOf x .row) (c .enum-told2 .given .1))
+returns-27 c = sym (ap refusalOf (c .enum-told2 .given .1))
 
 returns-28 : tie.Need-returns-28
-returns-28 c = sym (ap (λ (x : Refusal). refusalOf x .row) (c .enum-told3 .given .1))
+returns-28 c = sym (ap refusalOf (c .enum-told3 .given .1))
 
-pub row-of-spec : {M : Type 1} → statement M
-row-of-spec =
+pub tell-spec : {M : Type 1} → statement M
+tell-spec =
     tie.close
     (tie.spec
     enum-known-x

@@ -1,2 +1,0 @@
--- What a stored file prints.
-pub mod Shown
