@@ -200,7 +200,6 @@ void one_short(Suite &s, Random &random, int rounds) {
     }
 }
 
-#ifndef FFR_NO_JOIN
 void join_cases(Suite &s, Random &random, int rounds) {
     for (int round = 0; round < rounds; ++round) {
         const Record r = round == 0 ? listing() : random_record(random, 14);
@@ -242,6 +241,5 @@ void join_limits(Suite &s) {
         s.join("joined to a large record", older, random_batch(random, older), Rooms::limits());
     }
 }
-#endif
 
 } // namespace testing

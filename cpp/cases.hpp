@@ -15,10 +15,8 @@ void at_limits(Suite &s);
 void ragged(Suite &s);
 void one_short(Suite &s, Random &random, int rounds);
 
-#ifndef FFR_NO_JOIN
 void join_cases(Suite &s, Random &random, int rounds);
 void join_limits(Suite &s);
-#endif
 
 } // namespace testing
 

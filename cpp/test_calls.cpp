@@ -24,7 +24,6 @@ void random_cleanings(Suite &s, Random &random, int rounds) {
     }
 }
 
-#ifndef FFR_NO_JOIN
 void random_joins(Suite &s, Random &random, int rounds) {
     for (int round = 0; round < rounds; ++round) {
         Record r = random_record(random, random.chance(90) ? 14 : 40);
@@ -89,7 +88,6 @@ void runs(Suite &s, Random &random, int rounds) {
         s.expect(good, "run " + std::to_string(round) + ": cleaned often and once");
     }
 }
-#endif
 
 // Empty tables, and a refusal in words, by the wrapper.
 void wrapper(Suite &s) {
@@ -168,9 +166,7 @@ struct Call {
 void *run_call(void *data) {
     Call &c = *static_cast<Call *>(data);
     if (c.kind == 1) c.answer = call_clean(c.record.length, c.record.tables, c.record.samples, c.outputs);
-#ifndef FFR_NO_JOIN
     if (c.kind == 2) c.answer = call_join(c.record.length, c.record.tables, c.batch, c.outputs);
-#endif
     return nullptr;
 }
 
@@ -220,9 +216,7 @@ std::size_t most_stack(Suite &s, int kind) {
 
 void stack(Suite &s) {
     std::printf("stack of a cleaning: %zu bytes\n", most_stack(s, 1));
-#ifndef FFR_NO_JOIN
     std::printf("stack of a join: %zu bytes\n", most_stack(s, 2));
-#endif
 }
 
 Met answers(bool joins) {
@@ -258,17 +252,13 @@ int main(int count, char **words) {
     one_short(s, random, rounds / 50);
     random_cleanings(s, random, rounds);
     threads(s);
-#ifndef FFR_NO_JOIN
     join_cases(s, random, rounds / 50);
     join_limits(s);
     random_joins(s, random, rounds);
     runs(s, random, rounds / 50);
-#endif
     if (!kSanitized && rounds >= kEnough) stack(s); // not for the short run under valgrind
     s.report("clean", s.cleanings, answers(false));
-#ifndef FFR_NO_JOIN
     s.report("join", s.joins, answers(true));
-#endif
     std::printf("%lu cells\n%lu compared, %lu differ\n", s.cells, s.compared, s.differ);
     return s.differ == 0 && (s.missed == 0 || rounds < kEnough) ? 0 : 1;
 }

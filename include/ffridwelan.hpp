@@ -175,7 +175,6 @@ inline std::variant<Cleaned, Refusal> clean(std::uint32_t length, const Tables &
     return result;
 }
 
-#ifndef FFR_NO_JOIN
 // The record with a batch of new births joined to it.
 inline std::variant<Tables, Refusal> join(std::uint32_t length, const Tables &t, const Batch &b) {
     Tables o = detail::room();
@@ -194,7 +193,6 @@ inline std::variant<Tables, Refusal> join(std::uint32_t length, const Tables &t,
     detail::trim(o, rows);
     return o;
 }
-#endif
 
 #undef FFR_READ
 #undef FFR_WRITE
