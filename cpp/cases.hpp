@@ -9,6 +9,9 @@ namespace testing {
 // The scope paper's listing.
 Record listing();
 
+// A line of nodes, each the parent of the one before, with the youngest and the oldest as samples.
+Record line(std::uint32_t nodes);
+
 void by_hand(Suite &s);
 void named_later(Suite &s);
 void at_limits(Suite &s);

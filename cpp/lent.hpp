@@ -48,7 +48,7 @@ struct Rooms {
     }
 
     static Rooms limits() {
-        return even(FFR_MOST_NODES, FFR_MOST_EDGES, FFR_MOST_SITES, FFR_MOST_MUTATIONS, FFR_MOST_NODES);
+        return even(FFR_MOST_NODES, FFR_MOST_EDGES, FFR_MOST_SITES, FFR_MOST_MUTATIONS, FFR_MOST_MAP);
     }
 
     // Just what this result needs.
