@@ -38,7 +38,7 @@ ARCHIVE := target/staticlib/libffr.a
 LISTER := target/bin/ffridwelan
 # Compiled files, in a folder of their own for each way of building.
 OUT := target/cpp$(if $(filter 1,$(REFERENCE)),-reference)
-HEADERS := $(wildcard include/*) $(wildcard cpp/*.hpp)
+HEADERS := $(wildcard include/*) $(wildcard cpp/*.hpp) $(wildcard bench/*.hpp)
 REFERENCES := check clean join position
 SOURCES := $(REFERENCES:%=cpp/reference_%.cpp) cpp/histories.cpp cpp/cases.cpp cpp/test_calls.cpp
 FAULTS := 1 2 3 4 5 6 7 8
