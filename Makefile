@@ -8,21 +8,20 @@
 #   make sanitize valgrind   the tests under the sanitizers and under valgrind (on x86-64)
 #   make install PREFIX=     headers, archive, ffridwelan.pc
 #
-# REFERENCE=1 links the second implementation in place of the archive (with JOIN=1 for joining too). JOIN=0 leaves joining
-# out, which is so by itself where crate ffr has no join.
+# REFERENCE=1 links the second implementation in place of the archive: no rt is needed, and nothing is proved.
 
 PREFIX ?= /usr/local
 ROUNDS ?= 10000
 REFERENCE ?= 0
-JOIN ?= $(if $(wildcard crates/ffr/src/join.rt),1,0)
 
-# The archive is x86-64 code; elsewhere a cross compiler makes the callers and an emulator runs them.
-ifeq ($(shell uname -m),x86_64)
-CROSS ?=
+# The archive is x86-64 code; elsewhere a cross compiler makes the callers. tools/run runs them on either machine.
+ifeq ($(REFERENCE),1)
 RUN ?=
 else
+RUN ?= tools/run
+ifneq ($(shell uname -m),x86_64)
 CROSS ?= x86_64-linux-gnu-
-RUN ?= qemu-x86_64 -L /usr/x86_64-linux-gnu
+endif
 endif
 ifeq ($(origin CXX),default)
 CXX := $(CROSS)g++
@@ -34,20 +33,17 @@ endif
 STRICT := -Wall -Wextra -Wpedantic -Werror
 CFLAGS ?= -O2
 CXXFLAGS ?= -O2
-ifeq ($(JOIN),0)
-NOJOIN := -DFFR_NO_JOIN
-endif
 
 ARCHIVE := target/staticlib/libffr.a
 LISTER := target/bin/ffridwelan
 # Compiled files, in a folder of their own for each way of building.
-OUT := target/cpp$(if $(filter 1,$(REFERENCE)),-reference)$(if $(filter 0,$(JOIN)),-nojoin)
-HEADERS := $(wildcard include/*) $(wildcard cpp/*.hpp)
+OUT := target/cpp$(if $(filter 1,$(REFERENCE)),-reference)
+HEADERS := $(wildcard include/*) $(wildcard cpp/*.hpp) $(wildcard bench/*.hpp)
 REFERENCES := check clean join position
 SOURCES := $(REFERENCES:%=cpp/reference_%.cpp) cpp/histories.cpp cpp/cases.cpp cpp/test_calls.cpp
-FAULTS := 1 2 3 4 5 6 7 $(if $(filter 1,$(JOIN)),8)
+FAULTS := 1 2 3 4 5 6 7 8
 
-COMPILE = $(CXX) -std=c++17 $(STRICT) $(CXXFLAGS) $(NOJOIN) -pthread -Iinclude
+COMPILE = $(CXX) -std=c++17 $(STRICT) $(CXXFLAGS) -pthread -Iinclude
 
 ifeq ($(REFERENCE),1)
 CALLS := $(OUT)/reference_calls.o $(REFERENCES:%=$(OUT)/reference_%.o)
@@ -55,19 +51,25 @@ else
 CALLS := $(ARCHIVE)
 endif
 
-.PHONY: bench archive ctest example faults sanitize valgrind install clean-cpp
+.PHONY: bench archive ctest example faults sanitize valgrind install clean-cpp FORCE
 
-archive:
-	rt staticlib ffr
+archive: $(ARCHIVE)
 
 bench: $(ARCHIVE)
-	bench/run
+	CXX="$(CXX)" bench/run
 
-$(ARCHIVE):
+# What a crate is made from, written anew only where it has changed: by what the files hold, not by their times.
+target/made/%: FORCE
+	@mkdir -p $(@D)
+	@tools/made-from $* > $@.new
+	@if cmp -s $@.new $@; then rm $@.new; else mv $@.new $@; fi
+
+$(ARCHIVE): target/made/ffr
 	rt staticlib ffr
 
-$(LISTER):
+$(LISTER): target/made/ffridwelan
 	rt check ffridwelan
+	@touch $@
 
 $(OUT):
 	mkdir -p $@
@@ -92,9 +94,10 @@ ctest: $(OUT)/test_calls $(OUT)/test_c
 	cmp $(OUT)/test_c.out cpp/test_c.expected
 	$(RUN) $(OUT)/test_calls $(ROUNDS)
 
-ifeq ($(JOIN),0)
-example:
-	@echo "example skipped: crate ffr has no join"
+ifeq ($(REFERENCE),1)
+example: $(OUT)/example
+	$(RUN) $(OUT)/example > $(OUT)/example.seq
+	@echo "the stored form is $(OUT)/example.seq; it is not listed, since rt builds the listing program"
 else
 example: $(OUT)/example $(LISTER)
 	$(RUN) $(OUT)/example > $(OUT)/example.seq

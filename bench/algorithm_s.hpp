@@ -1,6 +1,7 @@
 // The baseline: Algorithm S of the pedigree recording paper in C++, as the field's libraries write it: ancestral
 // segments in one pool, a queue for each parent sorted by left, edges of a parent gathered child by child and joined
 // where they touch. A sample that is an ancestor of samples keeps its place (the paper's own listing forgets it).
+// The tests of the calls take it as their second cleaner too (cpp/reference_clean.cpp).
 #pragma once
 #include "tables.hpp"
 

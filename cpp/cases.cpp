@@ -14,6 +14,15 @@ Record listing() {
     return r;
 }
 
+Record line(std::uint32_t nodes) {
+    Record r;
+    r.length = 7;
+    for (std::uint32_t i = 0; i < nodes; ++i) r.tables.nodes.add(i, i + 1);
+    for (std::uint32_t i = 1; i < nodes; ++i) r.tables.edges.add(0, 7, i, i - 1);
+    r.samples = {1, nodes};
+    return r;
+}
+
 namespace {
 
 void wants(Suite &s, const char *what, const Record &r, std::uint32_t number, std::uint32_t row) {
@@ -33,16 +42,6 @@ Column count_from(std::uint32_t first, std::size_t count) {
     Column c(count);
     for (std::size_t i = 0; i < count; ++i) c[i] = first + static_cast<std::uint32_t>(i);
     return c;
-}
-
-// A line of nodes, each the parent of the one before, with the youngest and the oldest as samples.
-Record line(std::uint32_t nodes) {
-    Record r;
-    r.length = 7;
-    for (std::uint32_t i = 0; i < nodes; ++i) r.tables.nodes.add(i, i + 1);
-    for (std::uint32_t i = 1; i < nodes; ++i) r.tables.edges.add(0, 7, i, i - 1);
-    r.samples = {1, nodes};
-    return r;
 }
 
 // One parent and child, an edge for each position.
@@ -200,7 +199,6 @@ void one_short(Suite &s, Random &random, int rounds) {
     }
 }
 
-#ifndef FFR_NO_JOIN
 void join_cases(Suite &s, Random &random, int rounds) {
     for (int round = 0; round < rounds; ++round) {
         const Record r = round == 0 ? listing() : random_record(random, 14);
@@ -242,6 +240,5 @@ void join_limits(Suite &s) {
         s.join("joined to a large record", older, random_batch(random, older), Rooms::limits());
     }
 }
-#endif
 
 } // namespace testing

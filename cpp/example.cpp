@@ -1,5 +1,8 @@
 // A small breeding run: records births, joins a batch each generation, cleans every so often and at the end, and
 // writes the stored form to standard output, for the program ffridwelan to list. What it does is told on standard error.
+//
+// The fish are diploid. A node of the tables is ONE CHROMOSOME, so that each fish is two nodes with two birth numbers, and
+// what a parent gives is a gamete: one chromosome, pieced together from the parent's two.
 #include "ffridwelan.hpp"
 
 #include <cstdio>
@@ -11,9 +14,14 @@ namespace {
 using namespace ffridwelan;
 
 const std::uint32_t kLength = 1000;    // positions of the chromosome
-const std::uint32_t kFish = 6;         // chromosomes in each generation
+const std::uint32_t kFish = 4;         // fish in each generation: the first half are dams, the others sires
 const std::uint32_t kGenerations = 12; // after the founders
 const std::uint32_t kEvery = 4;        // generations between cleanings
+
+// The birth numbers of a fish's two chromosomes.
+struct Fish {
+    std::uint32_t from_dam, from_sire;
+};
 
 // What a call gave, or the end of the run with the refusal in words.
 template <class T> T take(std::variant<T, Refusal> answer) {
@@ -33,47 +41,88 @@ std::uint32_t draw(std::uint32_t count) {
     return static_cast<std::uint32_t>((word >> 20) % count);
 }
 
-// The founders, and a marker every 100 positions.
-Tables founders(Column &living) {
-    Tables record;
-    for (std::uint32_t birth = 1; birth <= kFish; ++birth) {
-        record.nodes.add(kGenerations, birth);
-        living.push_back(birth);
+// A birth number that no chromosome has had. None is ever given twice: a join sees only those that are still in the record.
+std::uint32_t next_birth() {
+    static std::uint32_t last = 0;
+    return ++last;
+}
+
+// The birth numbers of all these fish, two each.
+Column chromosomes(const std::vector<Fish> &fish) {
+    Column births;
+    for (const Fish &f : fish) {
+        births.push_back(f.from_dam);
+        births.push_back(f.from_sire);
     }
+    return births;
+}
+
+// The founders, and a marker every 100 positions.
+Tables founders(std::vector<Fish> &living) {
+    Tables record;
+    for (std::uint32_t i = 0; i < kFish; ++i) {
+        const std::uint32_t a = next_birth(), b = next_birth();
+        living.push_back(Fish{a, b});
+    }
+    for (std::uint32_t birth : chromosomes(living)) record.nodes.add(kGenerations, birth);
     for (std::uint32_t x = 50; x < kLength; x += 100) record.sites.add(x, 'A');
     return record;
 }
 
-// One generation: each new chromosome is its two parents' up to and from a crossing-over, with now and then a mutation.
-Batch births(std::uint32_t time, std::uint32_t &next_birth, Column &living) {
+// A new chromosome: one of the parent's two up to a crossing-over, the other from there on; now and then with a mutation.
+std::uint32_t gamete(Batch &batch, std::uint32_t time, const Fish &parent, std::uint32_t sites) {
+    const std::uint32_t birth = next_birth(), point = 1 + draw(kLength - 1);
+    const bool dam_first = draw(2) == 0;
+    batch.nodes.add(time, birth);
+    batch.edges.add(0, point, dam_first ? parent.from_dam : parent.from_sire, birth);
+    batch.edges.add(point, kLength, dam_first ? parent.from_sire : parent.from_dam, birth);
+    if (draw(4) == 0) batch.mutations.add(draw(sites), birth, static_cast<std::uint8_t>("CGT"[draw(3)]));
+    return birth;
+}
+
+// One generation: each new fish has a gamete of a dam and one of a sire.
+Batch births(std::uint32_t time, std::uint32_t sites, std::vector<Fish> &living) {
     Batch batch;
+    std::vector<Fish> young;
     for (std::uint32_t i = 0; i < kFish; ++i) {
-        const std::uint32_t birth = next_birth++, point = 1 + draw(kLength - 1);
-        batch.nodes.add(time, birth);
-        batch.edges.add(0, point, living[draw(kFish)], birth);
-        batch.edges.add(point, kLength, living[draw(kFish)], birth);
-        if (draw(3) == 0) batch.mutations.add(draw(10), birth, static_cast<std::uint8_t>("CGT"[draw(3)]));
+        const Fish &dam = living[draw(kFish / 2)], &sire = living[kFish / 2 + draw(kFish / 2)];
+        const std::uint32_t from_dam = gamete(batch, time, dam, sites), from_sire = gamete(batch, time, sire, sites);
+        young.push_back(Fish{from_dam, from_sire});
     }
-    living = batch.nodes.birth;
+    living = young;
     return batch;
+}
+
+// A marker that was not there before. Sites stand in order of position, so that those above it, and the mutations that
+// name them, move up by one row; a batch made afterwards must name the new rows.
+void new_site(Tables &record, std::uint32_t x, std::uint8_t ancestral) {
+    Sites &s = record.sites;
+    std::uint32_t row = 0;
+    while (row < s.position.size() && s.position[row] < x) ++row;
+    s.position.insert(s.position.begin() + row, x);
+    s.ancestral.insert(s.ancestral.begin() + row, ancestral);
+    for (std::uint32_t &site : record.mutations.site)
+        if (site >= row) ++site;
 }
 
 } // namespace
 
 int main() {
-    Column living;
+    std::vector<Fish> living;
     Tables record = founders(living);
-    std::uint32_t next_birth = kFish + 1;
     for (std::uint32_t g = 1; g <= kGenerations; ++g) {
-        record = take(join(kLength, record, births(kGenerations - g, next_birth, living)));
+        if (g == 6) new_site(record, 500, 'G');
+        const std::uint32_t sites = static_cast<std::uint32_t>(record.sites.position.size());
+        record = take(join(kLength, record, births(kGenerations - g, sites, living)));
         if (g % kEvery != 0) continue;
-        // Later batches and the last list name no older fish, so the living are all that must be listed.
+        // Later batches and the last list name no older fish, so the living, with both their chromosomes, are all that
+        // must be listed.
         const std::size_t before = record.nodes.time.size();
-        record = take(clean(kLength, record, living)).tables;
+        record = take(clean(kLength, record, chromosomes(living))).tables;
         std::fprintf(stderr, "generation %u: %zu nodes cleaned to %zu, %zu edges\n", g, before, record.nodes.time.size(),
                      record.edges.left.size());
     }
-    const auto bytes = stored(kLength, record, living);
+    const auto bytes = stored(kLength, record, chromosomes(living));
     if (!bytes) return 1;
     std::fwrite(bytes->data(), 1, bytes->size(), stdout);
     return 0;

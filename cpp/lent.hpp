@@ -48,7 +48,7 @@ struct Rooms {
     }
 
     static Rooms limits() {
-        return even(FFR_MOST_NODES, FFR_MOST_EDGES, FFR_MOST_SITES, FFR_MOST_MUTATIONS, FFR_MOST_NODES);
+        return even(FFR_MOST_NODES, FFR_MOST_EDGES, FFR_MOST_SITES, FFR_MOST_MUTATIONS, FFR_MOST_MAP);
     }
 
     // Just what this result needs.
@@ -153,7 +153,6 @@ inline std::uint64_t call_clean(std::uint32_t length, const Tables &t, const Col
                      LEND(o.ancestral), LEND(o.site), LEND(o.node), LEND(o.derived), LEND(o.map), LEND(o.block));
 }
 
-#ifndef FFR_NO_JOIN
 inline std::uint64_t call_join(std::uint32_t length, const Tables &t, const Batch &b, Outputs &o) {
     return ffr_join(length, READ(t.nodes.time), READ(t.nodes.birth), READ(t.edges.left), READ(t.edges.right),
                     READ(t.edges.parent), READ(t.edges.child), READ(t.sites.position), READ(t.sites.ancestral),
@@ -163,7 +162,6 @@ inline std::uint64_t call_join(std::uint32_t length, const Tables &t, const Batc
                     LEND(o.left), LEND(o.right), LEND(o.parent), LEND(o.child), LEND(o.position), LEND(o.ancestral),
                     LEND(o.site), LEND(o.node), LEND(o.derived), LEND(o.block));
 }
-#endif
 
 #undef READ
 #undef LEND

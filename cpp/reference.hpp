@@ -1,5 +1,5 @@
 // A second implementation of check, cleaning and joining, for comparing: written from the scope paper alone, in plain C++,
-// and not from the proved code. Cleaning is by ancestral segments (Algorithm S of the published method).
+// and not from the proved code. Cleaning is by ancestral segments (Algorithm S of the published method, bench/algorithm_s.hpp).
 #ifndef REFERENCE_HPP
 #define REFERENCE_HPP
 

@@ -63,7 +63,6 @@ struct Suite {
         return r.answer;
     }
 
-#ifndef FFR_NO_JOIN
     reference::Answer join(const char *what, const Record &record, const Batch &batch, const Rooms &rooms) {
         const Record copy = record;
         const Batch batch_copy = batch;
@@ -78,7 +77,6 @@ struct Suite {
         count(joins, r.answer);
         return r.answer;
     }
-#endif
 
     // How often each of these answers was met, and that no other was.
     void report(const char *call, const Met &met, const Met &wanted) {

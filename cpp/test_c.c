@@ -1,4 +1,4 @@
-/* The raw call from plain C99: the scope paper's listing, cleaned for fish 501 and 502. */
+/* The raw call from plain C99: the scope paper's listing, cleaned for the chromosomes 501 and 502. */
 #include "ffridwelan.h"
 
 #include <stdio.h>
@@ -15,14 +15,14 @@ int main(void) {
     const uint8_t derived[] = {'T', 'T', 'G'};
     const uint32_t samples[] = {501, 502};
 
-    /* Room for each table's limit is always enough. */
+    /* Room of each table's limit: enough for every result that is within the limits. */
     static uint32_t out_time[FFR_MOST_NODES], out_birth[FFR_MOST_NODES];
     static uint32_t out_left[FFR_MOST_EDGES], out_right[FFR_MOST_EDGES], out_parent[FFR_MOST_EDGES], out_child[FFR_MOST_EDGES];
     static uint32_t out_position[FFR_MOST_SITES];
     static uint8_t out_ancestral[FFR_MOST_SITES];
     static uint32_t out_site[FFR_MOST_MUTATIONS], out_node[FFR_MOST_MUTATIONS];
     static uint8_t out_derived[FFR_MOST_MUTATIONS];
-    static uint32_t out_map[FFR_MOST_NODES];
+    static uint32_t out_map[FFR_MOST_MAP];
     uint32_t rows[FFR_BLOCK_CELLS];
     uint64_t answer;
     uint32_t i;

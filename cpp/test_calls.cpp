@@ -24,7 +24,6 @@ void random_cleanings(Suite &s, Random &random, int rounds) {
     }
 }
 
-#ifndef FFR_NO_JOIN
 void random_joins(Suite &s, Random &random, int rounds) {
     for (int round = 0; round < rounds; ++round) {
         Record r = random_record(random, random.chance(90) ? 14 : 40);
@@ -89,7 +88,6 @@ void runs(Suite &s, Random &random, int rounds) {
         s.expect(good, "run " + std::to_string(round) + ": cleaned often and once");
     }
 }
-#endif
 
 // Empty tables, and a refusal in words, by the wrapper.
 void wrapper(Suite &s) {
@@ -103,29 +101,32 @@ void wrapper(Suite &s) {
     s.expect(bytes.has_value() && bytes->size() == 6 + 2 * 6 + 5 * 10 + 6 * 14 + 2 * 7 + 3 * 7 + 2, "stored form");
 }
 
-// Input columns may be one another: every fish has its time as birth number, and positions serve as rows too.
+// Input columns may be one another, or parts of one another: one array serves for times, birth numbers, positions and rows.
 void shared_inputs(Suite &s) {
     Record r;
-    const Column numbers{0, 1, 2};
+    const Column numbers{0, 1, 2, 3};
+    const Column front{0, 1, 2}, back{1, 2, 3};
     r.length = 9;
-    r.tables.nodes = {numbers, numbers};
+    r.tables.nodes = {front, back};
     r.tables.edges = {{0, 0}, {9, 9}, {1, 2}, {0, 1}};
-    r.tables.sites = {numbers, {7, 8, 9}};
-    r.tables.mutations = {numbers, numbers, {7, 8, 9}};
-    r.samples = numbers;
+    r.tables.sites = {back, {7, 8, 9}};
+    r.tables.mutations = {front, front, {8, 9, 7}};
+    r.samples = back;
     const Outputs before(Rooms::limits(), 3);
     Outputs o = before;
     const std::uint32_t *n = numbers.data();
-    const std::uint8_t *states = r.tables.sites.ancestral.data();
-    const std::uint32_t left[] = {0, 0}, right[] = {9, 9}, parent[] = {1, 2}, child[] = {0, 1};
+    const std::uint8_t states[] = {7, 8, 9, 7};
+    const std::uint32_t zeros_and_nines[] = {0, 0, 9, 9};
     const std::uint64_t answer = ffr_clean(
-        9, n, 3, n, 3, left, 2, right, 2, parent, 2, child, 2, n, 3, states, 3, n, 3, n, 3, states, 3, n, 3,
-        o.time.cells.data(), o.time.room, o.birth.cells.data(), o.birth.room, o.left.cells.data(), o.left.room,
-        o.right.cells.data(), o.right.room, o.parent.cells.data(), o.parent.room, o.child.cells.data(), o.child.room,
-        o.position.cells.data(), o.position.room, o.ancestral.cells.data(), o.ancestral.room, o.site.cells.data(), o.site.room,
-        o.node.cells.data(), o.node.room, o.derived.cells.data(), o.derived.room, o.map.cells.data(), o.map.room,
-        o.block.cells.data(), o.block.room);
-    s.judge("shared inputs", answer, reference::clean(r.length, r.tables, r.samples, Rooms::limits().shortest()), o, before);
+        9, n, 3, n + 1, 3, zeros_and_nines, 2, zeros_and_nines + 2, 2, n + 1, 2, n, 2, n + 1, 3, states, 3, n, 3, n, 3,
+        states + 1, 3, n + 1, 3, o.time.cells.data(), o.time.room, o.birth.cells.data(), o.birth.room, o.left.cells.data(),
+        o.left.room, o.right.cells.data(), o.right.room, o.parent.cells.data(), o.parent.room, o.child.cells.data(),
+        o.child.room, o.position.cells.data(), o.position.room, o.ancestral.cells.data(), o.ancestral.room,
+        o.site.cells.data(), o.site.room, o.node.cells.data(), o.node.room, o.derived.cells.data(), o.derived.room,
+        o.map.cells.data(), o.map.room, o.block.cells.data(), o.block.room);
+    const reference::Result due = reference::clean(r.length, r.tables, r.samples, Rooms::limits().shortest());
+    s.expect(due.answer.number == 0, "shared inputs are sound");
+    s.judge("shared inputs", answer, due, o, before);
 }
 
 // Several threads call at the same time.
@@ -158,19 +159,21 @@ const bool kSanitized = false;
 #endif
 
 struct Call {
+    int kind = 0; // 0 none, 1 clean, 2 join
+    const char *what = "";
     Record record;
     Batch batch;
     Outputs outputs{Rooms::limits(), 1};
     std::uint64_t answer = 1;
-    int kind = 0; // 0 none, 1 clean, 2 join
+
+    Call() = default;
+    Call(int k, const char *w, Record r, Batch b) : kind(k), what(w), record(std::move(r)), batch(std::move(b)) {}
 };
 
 void *run_call(void *data) {
     Call &c = *static_cast<Call *>(data);
     if (c.kind == 1) c.answer = call_clean(c.record.length, c.record.tables, c.record.samples, c.outputs);
-#ifndef FFR_NO_JOIN
     if (c.kind == 2) c.answer = call_join(c.record.length, c.record.tables, c.batch, c.outputs);
-#endif
     return nullptr;
 }
 
@@ -195,34 +198,51 @@ std::size_t stack_used(Call &c) {
     return used;
 }
 
-// The most over tables at their limits: a broad record, a line of 1,024 nodes with a mutation at its foot, many segments.
-std::size_t most_stack(Suite &s, int kind) {
+// A line of nodes with one site and two mutations on its lowest node, all nodes older than 0 by so much.
+Record marked_line(std::uint32_t nodes, std::uint32_t older) {
+    Record r = line(nodes);
+    for (std::uint32_t &t : r.tables.nodes.time) t += older;
+    r.tables.sites.add(0, 'A');
+    for (char state : {'C', 'G'}) r.tables.mutations.add(0, 0, static_cast<std::uint8_t>(state));
+    return r;
+}
+
+// The deepest and broadest calls that we know how to make.
+std::vector<Call> deep_calls() {
     Random random(11);
-    Record broad = breeding(random, 48, 15, 100000, 400), deep = hanging(1000, 2000);
-    for (Record *r : {&broad, &deep})
+    Record broad = breeding(random, 48, 15, 100000, 400), hung = hanging(1000, 2000);
+    for (Record *r : {&broad, &hung})
         for (std::uint32_t &t : r->tables.nodes.time) t += 6; // a batch can be younger
-    deep.tables.sites.add(0, 'A');
-    deep.tables.mutations.add(0, 0, 'C');
-    Call none;
-    const std::size_t base = stack_used(none);
-    std::size_t most = 0;
-    for (const Record &record : {broad, deep}) {
-        Call call;
-        call.record = record;
-        call.batch = random_batch(random, record);
-        call.kind = kind;
-        most = std::max(most, stack_used(call) - base);
-        s.expect(call.answer == 0, "a call on a stack of 1 MB");
+    hung.tables.sites.add(0, 'A');
+    hung.tables.mutations.add(0, 0, 'C');
+    Batch lowest; // a lowest node that the batch brings, with its two mutations: rule 26
+    lowest.nodes.add(0, 5000);
+    lowest.edges.add(0, 7, 1, 5000);
+    for (char state : {'C', 'G'}) lowest.mutations.add(0, 5000, static_cast<std::uint8_t>(state));
+    std::vector<Call> calls;
+    for (int kind : {1, 2}) {
+        calls.emplace_back(kind, "a broad record", broad, random_batch(random, broad));
+        calls.emplace_back(kind, "two samples in turns under a line", hung, random_batch(random, hung));
+        calls.emplace_back(kind, "two mutations below a line (10)", marked_line(FFR_MOST_NODES, 0), Batch{});
     }
-    s.expect(most < kStack / 2, "half of 1 MB of stack is enough");
-    return most;
+    Record above = marked_line(FFR_MOST_NODES - 1, 1);
+    above.tables.mutations = {};
+    calls.emplace_back(2, "two mutations below a line (26)", above, lowest);
+    return calls;
 }
 
 void stack(Suite &s) {
-    std::printf("stack of a cleaning: %zu bytes\n", most_stack(s, 1));
-#ifndef FFR_NO_JOIN
-    std::printf("stack of a join: %zu bytes\n", most_stack(s, 2));
-#endif
+    Call none;
+    const std::size_t base = stack_used(none);
+    std::size_t most[3] = {0, 0, 0};
+    for (Call &call : deep_calls()) {
+        const std::size_t used = stack_used(call) - base;
+        std::printf("stack of a %s, %s: %zu bytes\n", call.kind == 1 ? "cleaning" : "join", call.what, used);
+        s.expect(call.answer == 0, "a call on a stack of 1 MB");
+        most[call.kind] = std::max(most[call.kind], used);
+    }
+    std::printf("most stack: cleaning %zu bytes, join %zu bytes\n", most[1], most[2]);
+    s.expect(std::max(most[1], most[2]) < kStack / 2, "half of 1 MB of stack is enough");
 }
 
 Met answers(bool joins) {
@@ -258,17 +278,13 @@ int main(int count, char **words) {
     one_short(s, random, rounds / 50);
     random_cleanings(s, random, rounds);
     threads(s);
-#ifndef FFR_NO_JOIN
     join_cases(s, random, rounds / 50);
     join_limits(s);
     random_joins(s, random, rounds);
     runs(s, random, rounds / 50);
-#endif
     if (!kSanitized && rounds >= kEnough) stack(s); // not for the short run under valgrind
     s.report("clean", s.cleanings, answers(false));
-#ifndef FFR_NO_JOIN
     s.report("join", s.joins, answers(true));
-#endif
     std::printf("%lu cells\n%lu compared, %lu differ\n", s.cells, s.compared, s.differ);
     return s.differ == 0 && (s.missed == 0 || rounds < kEnough) ? 0 : 1;
 }

@@ -2,10 +2,21 @@
  * Ffridwelan: cleaning and joining of ancestry tables, called from C99 or C++ on x86-64 Linux.
  * The code behind these two calls is proved; this header only says how to reach it.
  *
+ * A NODE IS ONE CHROMOSOME, and so is every "fish", birth number and sample below. A diploid fish is two nodes with two
+ * birth numbers, and both are listed as samples to keep the fish. One number for each fish gives tables that pass every
+ * check and an ancestry that is wrong; no call can see it.
+ *
+ * A birth number is given once and never again. A join refuses one that is in the record (FFR_BATCH_BIRTH), but it cannot
+ * see one whose node was cleaned away: given again, that one is taken for a new chromosome without a word.
+ *
+ * Time counts ticks before the planned end, so it falls towards 0 and cannot fall further. Before a run goes on past its
+ * planned end, add one number to every time of the record.
+ *
  * Columns.  A table is a set of columns, each an array and its length in cells. Rows count from 0.
  * - Every pointer must be aligned for its type and must not be null, also where the length is 0: an
  *   empty column is the address of any cell and length 0. (The wrapper ffridwelan.hpp sees to this.)
- * - An output column must not overlap any other column, nor the block. Input columns may be one another.
+ * - An output column must overlap nothing: no input column, no other output column, not the block. Input columns are only
+ *   read, and may overlap each other, wholly or in part.
  * - Nothing else may write any column while a call runs.
  *
  * Answers.  A call returns number * 4294967296 + row; ffr_number and ffr_row take them apart.
@@ -14,12 +25,14 @@
  *   keep their values.
  * - Refused: the number says why and the row says where. No cell changes, those of the block included.
  *
- * The room of an output table is its shortest column. Room of each table's limit is always enough,
- * but where the exact result passes a limit (only cleaned edges can): then the answer is FFR_NO_ROOM.
+ * The room of an output table is its shortest column. The node map needs a cell for each INPUT node row, however few nodes
+ * are kept. FFR_MOST_NODES, FFR_MOST_EDGES, FFR_MOST_SITES, FFR_MOST_MUTATIONS and FFR_MOST_MAP cells are enough for every
+ * result that is within the limits. Cleaned edges alone can pass theirs, for they can outnumber the input's: then the
+ * answer is FFR_NO_ROOM, row FFR_EDGES, whatever the room, and the cure is to list fewer samples.
  *
  * Any input is taken, broken rows too: no call crashes, and none runs for ever. A call keeps no state,
  * allocates nothing and reads and writes no file, so threads may call at the same time, each with its own outputs.
- * It needs stack: lend a thread that calls 1 MB.
+ * It needs stack: lend a thread that calls 1 MB (docs/BENCHMARKS.md has what was measured).
  */
 #ifndef FFRIDWELAN_H
 #define FFRIDWELAN_H
@@ -33,6 +46,9 @@
 #define FFR_MOST_SITES 512u
 #define FFR_MOST_MUTATIONS 1024u
 #define FFR_MOST_SAMPLES 256u
+
+/* The most cells that the node map of a cleaning needs: one for each input node row. */
+#define FFR_MOST_MAP FFR_MOST_NODES
 
 /* The chromosome's length is 1 to this. */
 #define FFR_MOST_LENGTH 1073741824u
@@ -72,7 +88,7 @@ enum ffr_answer {
     FFR_MUTATION_ABOVE = 10,     /* mutation row: its node is above the node of an earlier mutation at that site */
     FFR_SAMPLE_UNKNOWN = 11,     /* sample: no node has this birth number */
     FFR_SAMPLE_REPEATED = 12,    /* sample: an earlier one is equal */
-    FFR_NO_ROOM = 13,            /* table: the result does not fit it (FFR_MAP and FFR_BLOCK count as tables) */
+    FFR_NO_ROOM = 13,            /* table: the result does not fit it (FFR_MAP and FFR_BLOCK count as tables), or cleaned edges pass FFR_MOST_EDGES */
     FFR_BATCH_COLUMNS = 20,      /* batch table: its columns differ in length */
     FFR_BATCH_TOO_MANY = 21,     /* batch table: base and batch together have too many rows */
     FFR_BATCH_BIRTH = 22,        /* batch node row: the birth number is in the base or earlier in the batch */
@@ -90,13 +106,14 @@ extern "C" {
  * Cleaning: keeps the samples and every place where their lines meet, with the links between them.
  * Answers 0 to 13.
  *
- * Edge rows must be in the order of their keys: parent time, parent birth, child birth, left.
+ * Edge rows must be in the order of their keys: parent time, parent birth, child birth, left. (Edges in any other order
+ * are put in it by ffr_join: give them as a batch to a base that has the sites alone.)
  * The output nodes are the samples in list order, then the others by time and birth number.
  */
 uint64_t ffr_clean(
     uint32_t length,                                         /* the chromosome's length */
     const uint32_t *time, size_t time_len,                   /* nodes: ticks before the planned end; larger is older */
-    const uint32_t *birth, size_t birth_len,                 /* nodes: birth number, one chromosome for ever */
+    const uint32_t *birth, size_t birth_len,                 /* nodes: birth number, of one chromosome for ever */
     const uint32_t *left, size_t left_len,                   /* edges: first position */
     const uint32_t *right, size_t right_len,                 /* edges: the position after the last */
     const uint32_t *parent, size_t parent_len,               /* edges: node row of the parent */
@@ -106,7 +123,7 @@ uint64_t ffr_clean(
     const uint32_t *site, size_t site_len,                   /* mutations: site row, never falling */
     const uint32_t *node, size_t node_len,                   /* mutations: node row */
     const uint8_t *derived, size_t derived_len,              /* mutations: state after it */
-    const uint32_t *samples, size_t samples_len,             /* birth numbers of the fish to keep */
+    const uint32_t *samples, size_t samples_len,             /* birth numbers of the chromosomes to keep, two for a diploid fish */
     uint32_t *out_time, size_t out_time_len,                 /* cleaned nodes: time */
     uint32_t *out_birth, size_t out_birth_len,               /* cleaned nodes: birth number */
     uint32_t *out_left, size_t out_left_len,                 /* cleaned edges, each as long as it can be, in key order: left */
@@ -118,12 +135,12 @@ uint64_t ffr_clean(
     uint32_t *out_site, size_t out_site_len,                 /* mutations kept, in their order: site row */
     uint32_t *out_node, size_t out_node_len,                 /* mutations: output row of the nearest kept node at or below */
     uint8_t *out_derived, size_t out_derived_len,            /* mutations: derived state */
-    uint32_t *out_map, size_t out_map_len,                   /* for each input node row its output row or FFR_NONE */
+    uint32_t *out_map, size_t out_map_len,                   /* a cell for each input node row: its output row or FFR_NONE */
     uint32_t *block, size_t block_len);                      /* rows written: nodes, edges, sites, mutations */
 
 /*
  * Joining: the base tables with a batch of new births, whose rows may stand in any order and name
- * fish by birth number. Answers 0 to 10, 13 and 20 to 26; the base is checked first.
+ * chromosomes by birth number. Answers 0 to 10, 13 and 20 to 26; the base is checked first.
  *
  * The result has the base's nodes, then the batch's; all edges in key order, none merged; the base's
  * sites; the mutations by site, base before batch.

@@ -1,5 +1,6 @@
 // Ffridwelan for C++17: tables as vectors, and the two calls of ffridwelan.h with all room given.
 // Header only, nothing but the standard library; link libffr.a.
+// A node is ONE CHROMOSOME: a diploid fish is two nodes, with two birth numbers (see the head of ffridwelan.h).
 #ifndef FFRIDWELAN_HPP
 #define FFRIDWELAN_HPP
 
@@ -18,7 +19,7 @@ namespace ffridwelan {
 using Column = std::vector<std::uint32_t>;
 using States = std::vector<std::uint8_t>;
 
-// Table 1. Time is in ticks before the planned end: larger is older.
+// Table 1, a row for each chromosome. Time is in ticks before the planned end: larger is older. A birth number is never given twice.
 struct Nodes {
     Column time, birth;
 
@@ -71,7 +72,7 @@ struct Tables {
     Mutations mutations;
 };
 
-// New births, with rows in any order, that name fish by birth number.
+// New births, with rows in any order, that name chromosomes by birth number.
 struct Batch {
     Nodes nodes;
     Edges edges;
@@ -154,11 +155,11 @@ inline void mark(std::vector<std::uint8_t> &bytes, const char *two) {
 #define FFR_READ(column) detail::cells(column), (column).size()
 #define FFR_WRITE(column) (column).data(), (column).size()
 
-// Cleans the record for these samples (birth numbers).
+// Cleans the record for these samples: birth numbers, two for each diploid fish that a later batch or list names.
 inline std::variant<Cleaned, Refusal> clean(std::uint32_t length, const Tables &t, const Column &samples) {
     Cleaned result;
     result.tables = detail::room();
-    result.map.resize(FFR_MOST_NODES);
+    result.map.resize(FFR_MOST_MAP);
     Tables &o = result.tables;
     detail::Block rows{};
     const std::uint64_t answer = ffr_clean(
@@ -175,7 +176,6 @@ inline std::variant<Cleaned, Refusal> clean(std::uint32_t length, const Tables &
     return result;
 }
 
-#ifndef FFR_NO_JOIN
 // The record with a batch of new births joined to it.
 inline std::variant<Tables, Refusal> join(std::uint32_t length, const Tables &t, const Batch &b) {
     Tables o = detail::room();
@@ -194,7 +194,6 @@ inline std::variant<Tables, Refusal> join(std::uint32_t length, const Tables &t,
     detail::trim(o, rows);
     return o;
 }
-#endif
 
 #undef FFR_READ
 #undef FFR_WRITE
