@@ -17,7 +17,7 @@ use Rattle.laws.specs.Bools.{or-no, or-left}
 use Rattle.accepted.specs.Refusals.{Accepted, passed}
 use Rattle.writing.specs.Room.{Needs, Lent, needsOf, lentBy, roomOf}
 use Rattle.cleaner.specs.Work.{Base, Work, written, putAll, Written, Safe, Held}
-use Rattle.cleaner.specs.Block.{roomWithin, room-within}
+use Rattle.writing.specs.Block.{roomWithin, room-within}
 use Rattle.cleaner.specs.Outcome.{fitAnswer, ending, ending-done, ending-refused, nothing}
 
 -- the rows keep to the limits, and each column has a cell for each

@@ -8,7 +8,6 @@ ghost use Rattle.meaning.specs.Called.{cleaningTo};
 ghost use Rattle.cleaner.specs.Outcome.{outcomeOf};
 
 mod rank;
-mod room;
 mod sound;
 mod store;
 mod trace;
@@ -161,6 +160,6 @@ pub fn clean(
         out_node,
         out_derived,
         out_map,
-        room::BLOCK,
+        writing::within::BLOCK,
     )
 }

@@ -1,6 +1,6 @@
 -- `tree::sweep::advance` meets its contract: edges end, then edges begin, and the columns are the tree at x.
 use mathlib.Core.Path.{sym, _∙_}
-use Rattle.tree.proofs.Touching.{noted-then}
+use Rattle.mend.proofs.Touching.{noted-then}
 use Rattle.tree.proofs.Sweeping.{plan-on}
 use Rattle.tree.proofs.Moving.{set-off, turn, arrive}
 use Rattle.tree.proofs.Meaning.{tree-at}

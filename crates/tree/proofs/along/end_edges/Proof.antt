@@ -2,9 +2,9 @@
 use mathlib.Core.Path.{_≡_, refl, _∙_}
 use Prim.Native.Nat.{_+_, _-_, _*_, _≤_}
 use lib.ListN.{length}
-use Rattle.tree.specs.Kept.{Kept, Noted}
+use Rattle.mend.specs.Kept.{Kept, Noted}
 use Rattle.tree.specs.Sweep.{Between}
-use Rattle.tree.proofs.Touching.{noted-none, noted-then}
+use Rattle.mend.proofs.Touching.{noted-none, noted-then}
 use Rattle.tree.proofs.Sweeping.{plan-on, end-child, end-had, end-one, end-all}
 use native.Mathlib.Omega.{arith}
 use borrow.Author.Needs.{needs}
