@@ -6,8 +6,6 @@ ghost use Rattle.meaning.specs.Called.{joiningTo};
 ghost use Rattle.joiner.specs.Outcome.{joinedOf};
 
 pub mod checks; // 1 to 10 of the base, then 20 to 26 of the batch
-pub mod edges; // the edges in key order
-pub mod mutations; // the mutations by site
 mod store;
 
 use meaning::Checked;

@@ -17,8 +17,8 @@ use Rattle.laws.specs.Facts.All.{also}
 use Rattle.accepted.specs.Refusals.{Accepted, of-done, passed}
 use Rattle.accepted.specs.Rooms.{Fits, fits-of, passed-room}
 use Rattle.accepted.specs.Calls.{Cleans, clean-tells}
-use Rattle.stored.specs.Stored.{isMark, Kind, Form, form, rowsAt, after, stopThen, kindThen, endThen, kindsThen, formThen}
-use Rattle.stored.specs.Calls.{Reading, reading, handed, ifDone, roomAnswer, found, tablesIn, samplesIn}
+use Rattle.form.specs.Stored.{isMark, Kind, Form, form, rowsAt, after, stopThen, kindThen, endThen, kindsThen, formThen}
+use Rattle.form.specs.Calls.{Reading, reading, handed, ifDone, roomAnswer, found, tablesIn, samplesIn}
 use Rattle.listing.specs.Written.{room}
 use Rattle.show.specs.Shown.{Long}
 

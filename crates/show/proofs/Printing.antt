@@ -12,7 +12,7 @@ use Rattle.meaning.specs.declared.Refusal.{Refusal}
 use Rattle.meaning.specs.Lent.{Counts}
 use Rattle.meaning.specs.Clean.{cleaning}
 use Rattle.accepted.specs.Numbers.{refusal-refuses}
-use Rattle.stored.specs.Calls.{reading}
+use Rattle.form.specs.Calls.{reading}
 use Rattle.listing.specs.Listing.{listed, refusedLine, tooLong}
 use Rattle.listing.specs.Written.{Printed}
 use Rattle.show.specs.Shown.{zeros, blank, front, printedBy, outcomeShown, cleanShown, readingShown, shown, answered}

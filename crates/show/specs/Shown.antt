@@ -9,7 +9,7 @@ use Rattle.meaning.specs.Forest.{stands}
 use Rattle.meaning.specs.Answer.{Answer, limits, accepted}
 use Rattle.meaning.specs.Lent.{Counts}
 use Rattle.meaning.specs.Clean.{Outcome, cleaning}
-use Rattle.stored.specs.Calls.{Reading, reading}
+use Rattle.form.specs.Calls.{Reading, reading}
 use Rattle.listing.specs.Listing.{listed, refusedLine, tooLong}
 
 -- "with room for every table's limit": lent columns of zeros

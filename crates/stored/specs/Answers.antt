@@ -6,7 +6,7 @@ use lib.ListN.{length}
 use Rattle.meaning.specs.Rows.{Tables}
 use Rattle.meaning.specs.Answer.{Answer, answer, done, limits, refusalOf, room}
 use Rattle.meaning.specs.Check.{shapes}
-use Rattle.stored.specs.Calls.{Reading, Writing}
+use Rattle.form.specs.Calls.{Reading, Writing}
 use Rattle.stored.specs.Admitted.{Shaped}
 use Rattle.stored.specs.declared.Rows.{Rows}
 use Rattle.stored.specs.declared.Fault.{Fault}

@@ -4,8 +4,8 @@ use mathlib.Core.List.{List, [], _∷_, _++_}
 use Prim.Native.Nat.{ℕ}
 use Rattle.meaning.specs.Rows.{Tables}
 use Rattle.meaning.specs.Answer.{Answer, Limits, answer, done, limits}
-use Rattle.stored.specs.Stored.{form, formThen}
-use Rattle.stored.specs.Calls.{found, samplesIn, tablesIn, written}
+use Rattle.form.specs.Stored.{form, formThen}
+use Rattle.form.specs.Calls.{found, samplesIn, tablesIn, written}
 
 -- SQ with L 10, a sample 501, a node (258, 501), and the end
 abbrev sq : List ℕ

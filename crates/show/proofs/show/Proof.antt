@@ -6,7 +6,7 @@ use lib.ListN.{length}
 use Rattle.meaning.specs.Rows.{Tables}
 use Rattle.meaning.specs.Answer.{done, limits}
 use Rattle.meaning.specs.Lent.{Counts}
-use Rattle.stored.specs.Calls.{reading}
+use Rattle.form.specs.Calls.{reading}
 use Rattle.stored.specs.Answers.{readOf}
 use Rattle.stored.specs.declared.Rows.{Rows}
 use Rattle.stored.specs.declared.ReadAnswer.{ReadAnswer}

@@ -6,7 +6,7 @@ use lib.ListN.{length}
 use Rattle.meaning.specs.Rows.{Tables}
 use Rattle.meaning.specs.Answer.{room}
 use Rattle.stored.specs.Answers.{Roomed}
-use Rattle.stored.specs.declared.Layout.{Layout}
+use Rattle.form.specs.declared.Layout.{Layout}
 use Rattle.stored.specs.declared.Rows.{Rows}
 use Rattle.stored.proofs.Returning.{Whole, file-whole, ready, read-refused, read-lacks, read-done}
 use native.Mathlib.Omega.{arith}

@@ -6,7 +6,7 @@ use Prim.Native.Nat.{ℕ, _<_}
 use lib.ListN.{length}
 use Rattle.meaning.specs.Rows.{Tables}
 use Rattle.meaning.specs.Answer.{limits}
-use Rattle.stored.specs.Calls.{tooWide}
+use Rattle.form.specs.Calls.{tooWide}
 use Rattle.stored.specs.Admitted.{Shaped, Within, Narrow}
 use Rattle.stored.specs.Answers.{Long, Counted, Ample, mostRows}
 use Rattle.stored.specs.declared.Lengths.{Lengths}

@@ -3,7 +3,7 @@ use mathlib.Core.Path.{_≡_, _∙_}
 use Prim.Native.Nat.{_≤_, _-_}
 use lib.ListN.{length}
 use Rattle.laws.specs.Counting.{Sought, sought-start, sought-hit, sought-miss, sought-none}
-use Rattle.stored.specs.Calls.{tooWide}
+use Rattle.form.specs.Calls.{tooWide}
 use Rattle.stored.proofs.Admitting.{wide-left, wide-right, wide-neither}
 use native.Mathlib.Omega.{arith}
 use borrow.Author.Needs.{needs}
