@@ -1,2 +1,3 @@
--- What the calls mean, for whoever looks at this crate alone.
-unfoldable pub use Rattle.form.specs.Calls.{Reading, Writing, reading, writing}
+-- What the calls mean, passed on.
+pub use Rattle.form.specs.Calls.{Reading, Writing}
+unfoldable pub use Rattle.form.specs.Calls.{reading, writing}
