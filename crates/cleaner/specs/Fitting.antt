@@ -18,8 +18,8 @@ use Rattle.laws.specs.Bools.{or-no, or-left}
 use Rattle.accepted.specs.Refusals.{Accepted, passed}
 use Rattle.accepted.specs.Endings.{clean-refused, clean-done}
 use Rattle.writing.specs.Room.{Needs, Lent, needsOf, lentBy, roomOf}
+use Rattle.writing.specs.Block.{roomWithin, room-within}
 use Rattle.cleaner.specs.Work.{Base, Work, written, Written, Safe, Held}
-use Rattle.cleaner.specs.Block.{roomWithin, room-within}
 
 -- the rows keep to the limits, and each column has a cell for each
 pub record RoomFor (n : Needs) (l : Lent) : Type 0 where

@@ -1,7 +1,6 @@
 -- The cleaning call: what it gives and leaves, its working columns, and laws from these to the definitions.
 pub mod Work
 pub mod Outcome
-pub mod Block
 pub mod Fitting
 pub mod Tracing
 pub mod Reading

@@ -19,7 +19,7 @@ use Rattle.order.specs.Counts.{bit, count-nil, count-cons, mem-counted, permute
 use Rattle.order.specs.Lex.{trichotomy, one-key}
 use Rattle.order.specs.Tables.{own-inside, permuted-inside}
 use Rattle.byrows.specs.Ground.{Ground}
-use Rattle.tree.specs.Right.{Shape}
+use Rattle.mend.specs.Right.{Shape}
 use Rattle.tree.specs.Sweep.{Checked, Index, Plan}
 use Rattle.runs.specs.Runs.{Store, Room}
 use Rattle.sweep.specs.Columns.{Input, State, Sited}

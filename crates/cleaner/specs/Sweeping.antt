@@ -13,7 +13,7 @@ use Rattle.order.specs.Order.{SortedFrom, byKeys}
 use Rattle.order.specs.Counts.{bit}
 use Rattle.byrows.specs.Rows.{sampleRows}
 use Rattle.byrows.specs.Ground.{mem-all, samples-inside}
-use Rattle.tree.specs.Right.{Shape}
+use Rattle.mend.specs.Right.{Shape}
 use Rattle.tree.specs.Sweep.{Plan}
 use Rattle.tree.specs.TreeAt.{Flags}
 use Rattle.runs.specs.Runs.{Store, Room}

@@ -6,7 +6,6 @@ ghost use Rattle.meaning.specs.Answer.{limits};
 ghost use Rattle.meaning.specs.Clean.{outcomeOf, cleaning};
 
 mod rank;
-mod room;
 mod sound;
 mod store;
 mod trace;
@@ -148,6 +147,6 @@ pub fn clean(
         out_node,
         out_derived,
         out_map,
-        room::BLOCK,
+        writing::within::BLOCK,
     )
 }

@@ -11,7 +11,6 @@ ghost use Rattle.meaning.specs.Clean.{outcomeOf, cleanEnd, cleanFit};
 ghost use Rattle.writing.specs.Room.{lentBy};
 ghost use Rattle.cleaner.specs.Fitting.{RoomFor};
 ghost use Rattle.cleaner.specs.Work.{Safe, Held, Written};
-use crate::room;
 use meaning::Refusal;
 use meaning::Tabled;
 
@@ -186,7 +185,7 @@ pub fn store(
     requires { ⌜ Safe (record { time = now time; birth = now birth; position = now position; ancestral = now ancestral; site = now site; derived = now derived }) (record { kept = now kept; left = now left; right = now right; parent = now parent; child = now child; order = now order; places = now places; lows = now lows; moved = now moved; nodes = nodes; edges = edges; mutations = mutations }) ⌝ }
     ensures { λ r. ⌜ ((new : Tables) (newMap : List ℕ) → Held (record { time = now (time .entry); birth = now (birth .entry); position = now (position .entry); ancestral = now (ancestral .entry); site = now (site .entry); derived = now (derived .entry) }) (record { kept = now (kept .entry); left = now (left .entry); right = now (right .entry); parent = now (parent .entry); child = now (child .entry); order = now (order .entry); places = now (places .entry); lows = now (lows .entry); moved = now (moved .entry); nodes = nodes; edges = edges; mutations = mutations }) new newMap → outcomeOf r (record { nodes = record { time = now («out_time» .exit); birth = now («out_birth» .exit) }; edges = record { left = now («out_left» .exit); right = now («out_right» .exit); parent = now («out_parent» .exit); child = now («out_child» .exit) }; sites = record { position = now («out_position» .exit); ancestral = now («out_ancestral» .exit) }; muts = record { site = now («out_site» .exit); node = now («out_node» .exit); derived = now («out_derived» .exit) } }) (now («out_map» .exit)) ≡ cleanEnd (cleanFit limits new newMap (record { nodes = record { time = now («out_time» .entry); birth = now («out_birth» .entry) }; edges = record { left = now («out_left» .entry); right = now («out_right» .entry); parent = now («out_parent» .entry); child = now («out_child» .entry) }; sites = record { position = now («out_position» .entry); ancestral = now («out_ancestral» .entry) }; muts = record { site = now («out_site» .entry); node = now («out_node» .entry); derived = now («out_derived» .entry) } }) (now («out_map» .entry)) cells) new newMap (record { nodes = record { time = now («out_time» .entry); birth = now («out_birth» .entry) }; edges = record { left = now («out_left» .entry); right = now («out_right» .entry); parent = now («out_parent» .entry); child = now («out_child» .entry) }; sites = record { position = now («out_position» .entry); ancestral = now («out_ancestral» .entry) }; muts = record { site = now («out_site» .entry); node = now («out_node» .entry); derived = now («out_derived» .entry) } }) (now («out_map» .entry))) ⌝ }
 {
-    let t = room::no_room_within(
+    let t = writing::within::no_room_within(
         nodes,
         edges,
         position.len(),

@@ -26,7 +26,7 @@ use Rattle.forest.specs.Profile.{stands-profile}
 use Rattle.accepted.specs.Refusals.{Accepted, of-done}
 use Rattle.accepted.specs.Records.{Young}
 use Rattle.accepted.specs.Endings.{clean-done, join-done}
-use Rattle.stored.specs.Numbers.{Bytes}
+use Rattle.form.specs.Numbers.{Bytes}
 use Rattle.stored.specs.RoundTrip.{Cells, read-written, written-read}
 use Rattle.results.specs.Trees.{treeAt, Ancestral, Induced, NoUnary}
 use Rattle.results.specs.Published.{induced-subtrees, no-unary-vertices, only-ancestral-nodes, only-ancestral-edges, no-adjacent-edges}

@@ -12,9 +12,9 @@ use Rattle.accepted.specs.Columns.{same-row}
 use Rattle.ancestry.specs.Column.{Rising}
 use Rattle.batches.specs.Joint.{Joint}
 use Rattle.batches.specs.Asked.{readBase, readBatch}
-use Rattle.joiner.specs.Asked.{Single, EdgesAsked}
-use Rattle.joiner.specs.Sorting.{EdgeRoom}
-use Rattle.joiner.specs.Mutations.{MutationRoom, MutationsAsked, MutationRows}
+use Rattle.joint.specs.Asked.{Single, EdgesAsked}
+use Rattle.joint.specs.Sorting.{EdgeRoom}
+use Rattle.joint.specs.Mutations.{MutationRoom, MutationsAsked, MutationRows}
 use Rattle.joiner.specs.Joinable.{Joinable}
 
 -- edges of a child that share no position, each with a position

@@ -27,7 +27,7 @@ use Rattle.checker.proofs.Rows.{apart, rising}
 use Rattle.accepted.specs.Batches.{BatchShaped}
 use Rattle.batches.specs.Lengths.{batchRagged, batchLarge}
 use Rattle.batches.specs.Asked.{readBase, BatchAsked}
-use Rattle.joiner.specs.Asked.{BaseAsked}
+use Rattle.joint.specs.Asked.{BaseAsked}
 
 refuse-hands : (a rest : Answer) (t : Bool) (n r : ℕ) → eqb n 0 ≡ false → refuse t n r (after a rest) ≡ after (refuse t n r a) rest
 unfolding refuse after accepted

@@ -20,12 +20,12 @@ use Rattle.accepted.specs.Rooms.{Fits}
 use Rattle.batches.specs.Joint.{jointEdges, jointMutations, allBirths, allTimes, JointPut}
 use Rattle.batches.specs.Asked.{readBase, readBatch}
 use Rattle.batches.proofs.Together.{joint-rows}
-use Rattle.joiner.specs.Asked.{EdgesAsked}
-use Rattle.joiner.specs.Sorting.{edgeOrder}
-use Rattle.joiner.specs.Mutations.{siteOrder, mutationsBySite, MutationsPut, MutationsAsked}
+use Rattle.joint.specs.Asked.{EdgesAsked}
+use Rattle.joint.specs.Sorting.{edgeOrder}
+use Rattle.joint.specs.Mutations.{siteOrder, mutationsBySite, MutationsPut, MutationsAsked}
 use Rattle.joiner.specs.Joinable.{Joinable}
-use Rattle.joiner.proofs.Ordered.{joined-edges}
-use Rattle.joiner.proofs.BySite.{joined-mutations}
+use Rattle.joint.proofs.Ordered.{joined-edges}
+use Rattle.joint.proofs.BySite.{joined-mutations}
 use Rattle.joiner.proofs.Granted.{joint, base-single, batch-single, edges-asked, mutation-rows, mutations-asked}
 
 -- ---- a sort has as many rows

@@ -7,7 +7,7 @@ ghost use Rattle.meaning.specs.Join.{batchShapes, batchSizes, batchRules};
 ghost use Rattle.rules.specs.Lengths.{refuseTable};
 ghost use Rattle.batches.specs.Lengths.{batchRagged, batchLarge};
 ghost use Rattle.batches.specs.Asked.{readBase};
-ghost use Rattle.joiner.specs.Asked.{BaseAsked};
+ghost use Rattle.joint.specs.Asked.{BaseAsked};
 use meaning::Checked;
 use meaning::Refusal;
 

@@ -136,7 +136,7 @@ fn write_all(
     ensures { λ _. ⌜ (record { nodes = record { time = now («out_time» .exit); birth = now («out_birth» .exit) }; edges = record { left = now («out_left» .exit); right = now («out_right» .exit); parent = now («out_parent» .exit); child = now («out_child» .exit) }; sites = record { position = now («out_position» .exit); ancestral = now («out_ancestral» .exit) }; muts = record { site = now («out_site» .exit); node = now («out_node» .exit); derived = now («out_derived» .exit) } }) ≡ cellsBy done (joined len (record { nodes = record { time = now (basetime .entry); birth = now (basebirth .entry) }; edges = record { left = now (baseleft .entry); right = now (baseright .entry); parent = now (baseparent .entry); child = now (basechild .entry) }; sites = record { position = now (position .entry); ancestral = now (ancestral .entry) }; muts = record { site = now (basesite .entry); node = now (basenode .entry); derived = now (basederived .entry) } }) (record { nodes = record { time = now (time .entry); birth = now (birth .entry) }; edges = record { left = now (left .entry); right = now (right .entry); parent = now (parent .entry); child = now (child .entry) }; muts = record { site = now (site .entry); node = now (node .entry); derived = now (derived .entry) } })) (record { nodes = record { time = now («out_time» .entry); birth = now («out_birth» .entry) }; edges = record { left = now («out_left» .entry); right = now («out_right» .entry); parent = now («out_parent» .entry); child = now («out_child» .entry) }; sites = record { position = now («out_position» .entry); ancestral = now («out_ancestral» .entry) }; muts = record { site = now («out_site» .entry); node = now («out_node» .entry); derived = now («out_derived» .entry) } }) ⌝ }
 {
     write_nodes(basetime, basebirth, time, birth, out_time, out_birth);
-    crate::edges::join_edges(
+    joint::edges::join_edges(
         len,
         basetime,
         basebirth,
@@ -156,7 +156,7 @@ fn write_all(
         out_child,
     );
     write_sites(position, ancestral, out_position, out_ancestral);
-    crate::mutations::join_mutations(
+    joint::mutations::join_mutations(
         basebirth,
         birth,
         basesite,

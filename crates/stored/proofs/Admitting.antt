@@ -13,7 +13,7 @@ use Rattle.meaning.specs.Answer.{Answer, answer, limits, ragged}
 use Rattle.meaning.specs.Check.{shapes, sizes, tooMany}
 use Rattle.laws.specs.Bools.{or-left, or-right}
 use Rattle.meaning.specs.Files.{tooWide}
-use Rattle.stored.specs.Refusals.{refuse-no, refuse-yes}
+use Rattle.form.specs.Refusals.{refuse-no, refuse-yes}
 use Rattle.stored.specs.Admitted.{Shaped, Within}
 use Rattle.stored.specs.Answers.{Long, Counted, Ample, Lowest, at-nodes, at-edges, at-sites, at-muts, at-samples, mostRows}
 use Rattle.stored.specs.declared.Lengths.{Lengths}

@@ -1,9 +1,5 @@
 -- Laws for the proofs of the code, over plain lists and numbers.
-pub mod Walking
-pub mod Chaining
-pub mod Filling
 pub mod Rooming
 pub mod Returning
-pub mod Laying
 pub mod Admitting
 pub mod Writing

@@ -16,13 +16,13 @@ use Rattle.meaning.specs.Stored.{Kind, number, whole, form, formThen, kinds, SA
 use Rattle.meaning.specs.Files.{Reading, ifDone, handed, roomAnswer, reading, tablesIn, samplesIn, found, nodesFrom, edgesFrom, sitesFrom, mutsFrom}
 use Rattle.stored.specs.Admitted.{Within}
 use Rattle.stored.specs.RoundTrip.{found-within}
-use Rattle.stored.specs.Posts.{Stretched, Found, Scanned, Records}
+use Rattle.form.specs.Posts.{Stretched, Found, Scanned, Records}
 use Rattle.stored.specs.Answers.{Counted, Roomed, Ample, Lacking, readOf}
-use Rattle.stored.specs.Marks.{whole-marked, whole-within}
-use Rattle.stored.specs.declared.Stretch.{Stretch}
-use Rattle.stored.specs.declared.Layout.{Layout}
-use Rattle.stored.specs.declared.Scan.{Scan}
-use Rattle.stored.specs.declared.Scan.the-variants as scan
+use Rattle.form.specs.Marks.{whole-marked, whole-within}
+use Rattle.form.specs.declared.Stretch.{Stretch}
+use Rattle.form.specs.declared.Layout.{Layout}
+use Rattle.form.specs.declared.Scan.{Scan}
+use Rattle.form.specs.declared.Scan.the-variants as scan
 use Rattle.stored.specs.declared.Fault.{Fault}
 use Rattle.stored.specs.declared.Fault.the-variants as fault
 use Rattle.stored.specs.declared.Rows.{Rows}

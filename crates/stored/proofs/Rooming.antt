@@ -12,7 +12,7 @@ use Rattle.meaning.specs.Rows.{Tables}
 use Rattle.meaning.specs.Answer.{Answer, answer, done, limits, lacks, room}
 use Rattle.meaning.specs.Lent.{fitThen}
 use Rattle.meaning.specs.Files.{roomAnswer}
-use Rattle.stored.specs.Refusals.{refuse-no, refuse-yes}
+use Rattle.form.specs.Refusals.{refuse-no, refuse-yes}
 use Rattle.stored.specs.Admitted.{Within}
 use Rattle.stored.specs.Answers.{Counted, Roomed, Ample, Lowest, at-nodes, at-edges, at-sites, at-muts, at-samples}
 use Rattle.stored.specs.declared.Rows.{Rows}

@@ -16,10 +16,10 @@ use Rattle.meaning.specs.declared.Refusal.the-variants.{Ragged, TooMany, NoRoom
 use Rattle.laws.specs.Counting.{none-passes}
 use Rattle.meaning.specs.Stored.{SA, ND, ED, SI, MU, kinds, form, size, total, bytesOf, recordsFrom, height, kindsBytes, formBytes}
 use Rattle.meaning.specs.Files.{Writing, ifDone, filed, tooWide, written, writeAnswer, laid, writing}
-use Rattle.stored.specs.Numbers.{length-bytes}
-use Rattle.stored.specs.Refusals.{even-head, shape-even, refuse-no, refuse-yes, row-no}
+use Rattle.form.specs.Numbers.{length-bytes}
+use Rattle.form.specs.Refusals.{even-head, shape-even, refuse-no, refuse-yes, row-no}
 use Rattle.stored.specs.Admitted.{Shaped, Within, Narrow, shapes-pass, write-sized, write-passes}
-use Rattle.stored.specs.Posts.{lay}
+use Rattle.form.specs.Posts.{lay}
 use Rattle.stored.specs.Answers.{Long, Counted, Ample, Lowest, Lacking, Uneven, mostRows, writtenOf}
 use Rattle.stored.specs.declared.Lengths.{Lengths}
 use Rattle.stored.specs.declared.Rows.{Rows}
@@ -28,7 +28,7 @@ use Rattle.stored.specs.declared.Fault.the-variants as fault
 use Rattle.stored.specs.declared.WriteAnswer.{WriteAnswer}
 use Rattle.stored.specs.declared.WriteAnswer.the-variants as write
 use Rattle.stored.proofs.Returning.{refusal-not-done}
-use Rattle.stored.proofs.Laying.{lay-chain, lay-front, length-records}
+use Rattle.form.proofs.Laying.{lay-chain, lay-front, length-records}
 use Rattle.stored.proofs.Admitting.{sizes-over, all-within}
 
 -- ---- a refusal leaves everything as it was

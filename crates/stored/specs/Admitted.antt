@@ -10,7 +10,7 @@ use Rattle.meaning.specs.Rows.{Tables}
 use Rattle.meaning.specs.Answer.{Answer, Limits, done, refuse, refuseRow, accepted, ragged}
 use Rattle.meaning.specs.Check.{shapes, sizes, tooMany}
 use Rattle.meaning.specs.Files.{tooWide, written, writeAnswer}
-use Rattle.stored.specs.Refusals.{refuse-no, passed, row-no, row-passed}
+use Rattle.form.specs.Refusals.{refuse-no, passed, row-no, row-passed}
 
 pub record Shaped (T : Tables) : Type 0 where
   pub nodes : ragged (T .nodes .time ∷ T .nodes .birth ∷ []) ≡ false

@@ -14,10 +14,10 @@ use Rattle.meaning.specs.Answer.{Answer, refuse, accepted}
 use Rattle.laws.specs.Bools.{clash, and-of, not-of, not-no}
 use Rattle.laws.specs.Counting.{length-rows}
 use Rattle.meaning.specs.Stored.{Kind, Form, number, bytesOf, isMark, size, rowsAt, after, stopThen, kindThen, endThen, kindsThen, formThen, columns, tablesFrom, recordAt, recordsFrom, height, kindsBytes, formBytes}
-use Rattle.stored.specs.Refusals.{refuse-no, passed}
-use Rattle.stored.specs.Numbers.{Bytes, length-bytes, number-written, bytes-read}
-use Rattle.stored.specs.Marks.{Marked, marked, marked-front, front-there, front-mark, other-mark, whole-marked, whole-is}
-use Rattle.stored.specs.Records.{Fit, records-read, records-written, stand-written, read-columns}
+use Rattle.form.specs.Refusals.{refuse-no, passed}
+use Rattle.form.specs.Numbers.{Bytes, length-bytes, number-written, bytes-read}
+use Rattle.form.specs.Marks.{Marked, marked, marked-front, front-there, front-mark, other-mark, whole-marked, whole-is}
+use Rattle.form.specs.Records.{Fit, records-read, records-written, stand-written, read-columns}
 
 -- ---- kinds that can be told apart
 

@@ -14,10 +14,10 @@ use Rattle.laws.specs.Bools.{or-no}
 use Rattle.laws.specs.Counting.{length-rows, get-rows}
 use Rattle.meaning.specs.Stored.{Kind, number, kinds, form, SA, ND, ED, SI, MU, size, rowsAt, after, formThen, formBytes, columns, tablesFrom, height}
 use Rattle.meaning.specs.Files.{filed, samplesIn, tablesIn, found, nodesFrom, edgesFrom, sitesFrom, mutsFrom, handed, roomAnswer, reading, tooWide, written, writeAnswer, laid, writing}
-use Rattle.stored.specs.Refusals.{Even, even-head, even-shape, shape-even}
-use Rattle.stored.specs.Numbers.{Bytes, number-below}
-use Rattle.stored.specs.Marks.{whole-le}
-use Rattle.stored.specs.Records.{Fit}
+use Rattle.form.specs.Refusals.{Even, even-head, even-shape, shape-even}
+use Rattle.form.specs.Numbers.{Bytes, number-below}
+use Rattle.form.specs.Marks.{whole-le}
+use Rattle.form.specs.Records.{Fit}
 use Rattle.stored.specs.Kinds.{proper, Fitting, form-accepted, form-len, form-tables, form-read}
 use Rattle.stored.specs.Admitted.{Shaped, Within, Narrow, write-passes, write-accepted}
 

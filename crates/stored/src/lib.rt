@@ -1,41 +1,12 @@
-// Reading and writing 01's stored form. What the bytes mean is in specs/.
+// Reading and writing 01's stored form. What the bytes mean is in crate `form`; answers and round trips are in specs/.
 ghost use mathlib.Core.Path.{_≡_};
 ghost use Rattle.meaning.specs.Answer.{limits};
 ghost use Rattle.meaning.specs.Files.{reading, writing};
 ghost use Rattle.stored.specs.Answers.{readOf, writtenOf};
 
-mod fill; // fill.rt: columns filled from the records
-mod lay; // lay.rt: records laid into lent bytes
 mod measure; // measure.rt: whether what was found fits what is lent
-mod walk; // walk.rt: where the rows of each kind stand, or why not
 
-// The rows of one kind: where its records start, how many there are, and where they end.
-pub struct Stretch {
-    pub start: usize,
-    pub count: usize,
-    pub end: usize,
-}
-
-// What reading one kind finds.
-pub enum Step {
-    Ends(Stretch),
-    Refused(meaning::Refusal),
-}
-
-// The rows of every kind.
-pub struct Layout {
-    pub samples: Stretch,
-    pub nodes: Stretch,
-    pub edges: Stretch,
-    pub sites: Stretch,
-    pub mutations: Stretch,
-}
-
-// What reading all kinds finds.
-pub enum Scan {
-    Found(Layout),
-    Refused(meaning::Refusal),
-}
+use form::Scan;
 
 // The rows of each table: as many as are found, as many as there is room for, or as many as were read.
 pub struct Rows {
@@ -97,7 +68,7 @@ pub fn read(
 ) -> ReadAnswer
     ensures { λ r. ⌜ readOf r (record { nodes = record { time = now (time .exit); birth = now (birth .exit) }; edges = record { left = now (left .exit); right = now (right .exit); parent = now (parent .exit); child = now (child .exit) }; sites = record { position = now (position .exit); ancestral = now (ancestral .exit) }; muts = record { site = now (site .exit); node = now (node .exit); derived = now (derived .exit) } }) (now (samples .exit)) ≡ reading 2 limits (now (bytes .entry)) (record { nodes = record { time = now (time .entry); birth = now (birth .entry) }; edges = record { left = now (left .entry); right = now (right .entry); parent = now (parent .entry); child = now (child .entry) }; sites = record { position = now (position .entry); ancestral = now (ancestral .entry) }; muts = record { site = now (site .entry); node = now (node .entry); derived = now (derived .entry) } }) (now (samples .entry)) ⌝ }
 {
-    let found = match walk::scan(bytes) {
+    let found = match form::walk::scan(bytes) {
         Scan::Found(l) => l,
         Scan::Refused(x) => return ReadAnswer::Refused(x),
     };
@@ -112,14 +83,14 @@ pub fn read(
     match measure::lacking(rows, lent) {
         Fault::Table(t) => ReadAnswer::Refused(meaning::Refusal::NoRoom(t)),
         Fault::Nothing => {
-            let len = fill::get32(bytes, 2);
+            let len = form::fill::get32(bytes, 2);
             let nodes_at = found.nodes;
             let edges_at = found.edges;
             let sites_at = found.sites;
             let mutations_at = found.mutations;
             let samples_at = found.samples;
-            fill::nodes(bytes, nodes_at.start, nodes_at.count, time, birth);
-            fill::edges(
+            form::fill::nodes(bytes, nodes_at.start, nodes_at.count, time, birth);
+            form::fill::edges(
                 bytes,
                 edges_at.start,
                 edges_at.count,
@@ -128,8 +99,8 @@ pub fn read(
                 parent,
                 child,
             );
-            fill::sites(bytes, sites_at.start, sites_at.count, position, ancestral);
-            fill::mutations(
+            form::fill::sites(bytes, sites_at.start, sites_at.count, position, ancestral);
+            form::fill::mutations(
                 bytes,
                 mutations_at.start,
                 mutations_at.count,
@@ -137,7 +108,7 @@ pub fn read(
                 node,
                 derived,
             );
-            fill::samples(bytes, samples_at.start, samples_at.count, samples);
+            form::fill::samples(bytes, samples_at.start, samples_at.count, samples);
             ReadAnswer::Done { len, rows }
         }
     }
@@ -200,12 +171,12 @@ pub fn write(
     if bytes.len() < count {
         return WriteAnswer::Refused(meaning::Refusal::NoRoom(meaning::Bytes::NUMBER));
     }
-    lay::head(len, bytes);
-    let a = lay::samples(samples, 6, bytes);
-    let b = lay::nodes(time, birth, a, bytes);
-    let c = lay::edges(left, right, parent, child, b, bytes);
-    let d = lay::sites(position, ancestral, c, bytes);
-    let e = lay::mutations(site, node, derived, d, bytes);
-    lay::mark(e, 69, 78, bytes);
+    form::lay::head(len, bytes);
+    let a = form::lay::samples(samples, 6, bytes);
+    let b = form::lay::nodes(time, birth, a, bytes);
+    let c = form::lay::edges(left, right, parent, child, b, bytes);
+    let d = form::lay::sites(position, ancestral, c, bytes);
+    let e = form::lay::mutations(site, node, derived, d, bytes);
+    form::lay::mark(e, 69, 78, bytes);
     WriteAnswer::Done(count)
 }

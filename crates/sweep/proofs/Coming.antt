@@ -7,19 +7,19 @@ use native.Mathlib.Omega.{arith}
 use lib.ListN.{length}
 use Rattle.meaning.specs.Words.{at}
 use Rattle.meaning.specs.Rows.{Edge}
-use Rattle.tree.specs.Kept.{Noted}
+use Rattle.mend.specs.Kept.{Noted}
 use Rattle.tree.specs.Sweep as tree
 use Rattle.tree.specs.Sweep.{Ahead, nextChange}
 use Rattle.tree.specs.TreeAt as tree-at
 use Rattle.tree.specs.TreeAt.{Flags, TreeAt, lowAt}
-use Rattle.tree.proofs.Reading.{lt?}
+use Rattle.mend.proofs.Reading.{lt?}
 use Rattle.tree.proofs.Moving.{next-ahead}
 use Rattle.runs.specs.Runs.{code, Room, Settled, Stored}
 use Rattle.runs.specs.Promises.{Touched, ChangeSettled}
 use Rattle.runs.specs.Sized.{opened-after, settled-after}
 use Rattle.runs.specs.Sweep.{swept-on}
 use Rattle.sweep.specs.Columns.{Input, State, edgesIn, upIn, positionOf, lowCell}
-use Rattle.sweep.specs.Placing.{Placed}
+use Rattle.placing.specs.Placing.{Placed}
 use Rattle.sweep.specs.Sweeping.{Steady, Going, Later, Came}
 use Rattle.sweep.proofs.Still.{up-same, low-same}
 use Rattle.sweep.proofs.Inside.{up-cell, low-cell}

@@ -11,7 +11,7 @@ use Rattle.meaning.specs.Rows.{Edge}
 use Rattle.meaning.specs.Answer.{put}
 use Rattle.laws.specs.Counting.{length-rows, get-rows}
 use Rattle.tree.specs.TreeAt.{Flags}
-use Rattle.tree.proofs.Reading.{lt?}
+use Rattle.mend.proofs.Reading.{lt?}
 use Rattle.runs.specs.Runs.{Store, Room, Opened}
 use Rattle.runs.specs.Promises.{Closed}
 use Rattle.runs.specs.Sized.{opened-own, room-own, collected-after}

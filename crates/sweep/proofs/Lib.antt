@@ -1,7 +1,6 @@
 -- Laws that belong to no one function.
 pub mod Still
 pub mod Inside
-pub mod Giving
 pub mod Stepping
 pub mod Coming
 pub mod Starting

@@ -9,12 +9,12 @@ use native.Mathlib.Omega.{arith}
 use lib.ListN.{length, getD}
 use Rattle.meaning.specs.Words.{at}
 use Rattle.laws.specs.Bools.{clash, eq?, none-some}
-use Rattle.tree.specs.Right.{stands}
-use Rattle.tree.specs.Line.{parOf, opt, Over, root, hit, on}
-use Rattle.tree.specs.Kept.{Filled}
+use Rattle.mend.specs.Right.{stands}
+use Rattle.mend.specs.Line.{parOf, opt, Over, root, hit, on}
+use Rattle.mend.specs.Kept.{Filled}
 use Rattle.tree.specs.Sweep as tree
 use Rattle.tree.specs.Sweep.{seen, Plan}
-use Rattle.tree.proofs.Reading.{opt-some, no-parent}
+use Rattle.mend.proofs.Reading.{opt-some, no-parent}
 use Rattle.tree.proofs.Seeing.{not-begun}
 use Rattle.tree.proofs.Sweeping.{plan-on}
 use Rattle.runs.specs.Runs.{no-row, Room}

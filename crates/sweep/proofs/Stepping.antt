@@ -9,16 +9,16 @@ use native.Mathlib.Omega.{arith}
 use lib.ListN.{length, getD}
 use Rattle.meaning.specs.Words.{at}
 use Rattle.laws.specs.Bools.{eq?, none-some, some-inj}
-use Rattle.tree.specs.Right.{stands}
-use Rattle.tree.specs.Line.{parOf, Over, root, hit, on}
-use Rattle.tree.specs.Kept.{Kept, Noted}
+use Rattle.mend.specs.Right.{stands}
+use Rattle.mend.specs.Line.{parOf, Over, root, hit, on}
+use Rattle.mend.specs.Kept.{Kept, Noted}
 use Rattle.tree.specs.Sweep as tree
-use Rattle.tree.proofs.Reading.{par-of, opt-some}
+use Rattle.mend.proofs.Reading.{par-of, opt-some}
 use Rattle.runs.specs.Runs.{no-row, Named}
 use Rattle.runs.specs.Promises.{Ready}
 use Rattle.runs.specs.Sized.{ready-of}
 use Rattle.sweep.specs.Columns.{Input, State, positionOf, Sited}
-use Rattle.sweep.specs.Placing.{Placeable}
+use Rattle.placing.specs.Placing.{Placeable}
 use Rattle.sweep.specs.Sweeping.{Steady}
 
 -- ---- a cell of the tree's output parents holds a row or none

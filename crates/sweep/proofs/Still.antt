@@ -13,7 +13,7 @@ use Rattle.encoding.specs.Quiet.{Still, forest-still}
 use Rattle.byrows.specs.Rows.{allRows, forestRow, reachedRow, standsRow, upRow, lowRow}
 use Rattle.tree.specs.Sweep.{Index, Cut, Ahead, Plan}
 use Rattle.tree.specs.TreeAt.{columns}
-use Rattle.tree.proofs.Reading.{lt?}
+use Rattle.mend.proofs.Reading.{lt?}
 
 -- a key that both cuts agree on is before the one or from the other on
 either-side : {key b : List ℕ} {m i y z : ℕ} → Index key b m → Cut key b i y y → Cut key b i z z → (e : ℕ) → e < m → (getD key e 0 < y) ⊎ (z ≤ getD key e 0)

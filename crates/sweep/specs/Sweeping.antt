@@ -6,7 +6,7 @@ use lib.ListN.{length}
 use Rattle.meaning.specs.Words.{at, rows}
 use Rattle.meaning.specs.Rows.{Edge}
 use Rattle.meaning.specs.Answer.{put}
-use Rattle.tree.specs.Right.{Shape}
+use Rattle.mend.specs.Right.{Shape}
 use Rattle.tree.specs.Sweep.{Plan}
 use Rattle.tree.specs.Sweep as tree
 use Rattle.tree.specs.TreeAt.{Flags}

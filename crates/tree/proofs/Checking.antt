@@ -18,7 +18,7 @@ use Rattle.laws.specs.Facts.{Distinct, nil, cons}
 use Rattle.forest.specs.Passing.{count-yes, count-no, count-one, one-of}
 use Rattle.tree.specs.Sweep.{Checked, Index}
 use Rattle.tree.specs.TreeAt.{nodeRows}
-use Rattle.tree.proofs.Reading.{lt?}
+use Rattle.mend.proofs.Reading.{lt?}
 use Rattle.tree.proofs.Lowering.{rows-once, row-mem, mem-row}
 
 -- ---- the rules 5 and 7

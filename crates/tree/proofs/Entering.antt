@@ -9,16 +9,16 @@ use native.Mathlib.Omega.{arith}
 use lib.ListN.{length, getD, set, length-set}
 use lib.Seq.{getD-set-same, getD-set-other}
 use Rattle.laws.specs.Bools.{clash, eq?}
-use Rattle.tree.specs.Right as right
-use Rattle.tree.specs.Right.{live, stands, Grows}
-use Rattle.tree.specs.Line.{parOf, opt, Low, here, down, Over, Edge, Lives, Stop, ends, at, over, Gained}
-use Rattle.tree.specs.Kept.{Mended, UpOk, Kept, Enters, Heir}
-use Rattle.tree.proofs.Reading.{of-par, no-parent, par-off, ranked, opt-some, stands-live}
-use Rattle.tree.proofs.Only.{lives}
+use Rattle.mend.specs.Right as right
+use Rattle.mend.specs.Right.{live, stands, Grows}
+use Rattle.mend.specs.Line.{parOf, opt, Low, here, down, Over, Edge, Lives, Stop, ends, at, over, Gained}
+use Rattle.mend.specs.Kept.{Mended, UpOk, Kept, Enters, Heir}
+use Rattle.mend.proofs.Reading.{of-par, no-parent, par-off, ranked, opt-some, stands-live}
+use Rattle.mend.proofs.Only.{lives}
 use Rattle.tree.proofs.Up.{low-stands, insert-stand, insert-same, keep}
 use Rattle.tree.proofs.OneEdge.{mended-dead}
 use Rattle.tree.proofs.Inheriting.{heir-calm, heir-below}
-use Rattle.tree.proofs.Climbing.{stop-one, stop-edge}
+use Rattle.mend.proofs.Climbing.{stop-one, stop-edge}
 
 -- a climb stops at no younger row than it starts from
 stop-rank : (T P : List ℕ) (L : ℕ → Bool) (s q : ℕ) → Grows T P → (s ≡ right.none → ⊥) → ((q ≡ right.none → ⊥) → q < length P) → Stop P L s q → getD T q 0 ≤ getD T s 0

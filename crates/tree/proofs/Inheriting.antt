@@ -5,10 +5,10 @@ use mathlib.Core.List.{List}
 use Prim.Native.Nat.{ℕ, _<_, _≤_}
 use native.Mathlib.Omega.{arith}
 use lib.ListN.{length}
-use Rattle.tree.specs.Right as right
-use Rattle.tree.specs.Right.{live, stands}
-use Rattle.tree.specs.Line.{parOf, Low}
-use Rattle.tree.specs.Kept.{Heir, no-row, stood, below}
+use Rattle.mend.specs.Right as right
+use Rattle.mend.specs.Right.{live, stands}
+use Rattle.mend.specs.Line.{parOf, Low}
+use Rattle.mend.specs.Kept.{Heir, no-row, stood, below}
 
 -- where there is no heir, s stands or is no row
 pub heir-calm : {S P C : List ℕ} {s z : ℕ} → length P ≤ right.none → Heir S P C s z → z ≡ right.none → (s ≡ right.none → ⊥) → stands S C s ≡ true

@@ -10,14 +10,14 @@ use lib.ListN.{length, getD, set, length-set}
 use lib.Seq.{getD-set-same, getD-set-other}
 use Rattle.laws.specs.Bools.{clash, eq?}
 use Rattle.forest.specs.Lines.{Ranked}
-use Rattle.tree.specs.Right as right
-use Rattle.tree.specs.Right.{W, live, stands, Grows}
-use Rattle.tree.specs.Line.{parOf, opt, Low, here, down, Over, Edge, Lives, Lost}
-use Rattle.tree.specs.Kept.{Mended, UpOk, Kept, Heir}
-use Rattle.tree.proofs.Reading.{par-of, of-par, no-parent, par-off, ranked, opt-none, stands-live}
+use Rattle.mend.specs.Right as right
+use Rattle.mend.specs.Right.{W, live, stands, Grows}
+use Rattle.mend.specs.Line.{parOf, opt, Low, here, down, Over, Edge, Lives, Lost}
+use Rattle.mend.specs.Kept.{Mended, UpOk, Kept, Heir}
+use Rattle.mend.proofs.Reading.{par-of, of-par, no-parent, par-off, ranked, opt-none, stands-live}
 use Rattle.tree.proofs.OneEdge.{mended-dead}
 use Rattle.tree.proofs.Inheriting.{heir-calm, heir-below}
-use Rattle.tree.proofs.Only.{lives}
+use Rattle.mend.proofs.Only.{lives}
 use Rattle.tree.proofs.Up.{low-stands, keep, over-one, remove-stand, remove-same, over-total}
 
 -- there is something over each row

@@ -1,14 +1,6 @@
 -- Laws of the tree's columns.
-pub mod Totals
-pub mod Reading
-pub mod Mending
-pub mod Nearest
 pub mod OneEdge
-pub mod Only
 pub mod Up
-pub mod Climbing
-pub mod Falling
-pub mod Touching
 pub mod Entering
 pub mod Leaving
 pub mod Inheriting

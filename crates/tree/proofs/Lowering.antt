@@ -18,12 +18,12 @@ use Rattle.forest.specs.Passing.{first-some, first-of}
 use Rattle.forest.specs.TreeLaws.{Nodes, feeds-of, of-feeds}
 use Rattle.forest.specs.Lowest.{Rule, stands-rule}
 use Rattle.forest.specs.Code.{low-here, low-on}
-use Rattle.tree.specs.Right.{live, stands}
-use Rattle.tree.specs.Line.{parOf, Low, here, down, Lives}
-use Rattle.tree.specs.Kept.{Mended}
+use Rattle.mend.specs.Right.{live, stands}
+use Rattle.mend.specs.Line.{parOf, Low, here, down, Lives}
+use Rattle.mend.specs.Kept.{Mended}
 use Rattle.tree.specs.TreeAt.{code, forestAt, standsAt, lowAt, nodeRows, Flags}
-use Rattle.tree.proofs.Reading.{par-of, stands-no}
-use Rattle.tree.proofs.Only.{lives}
+use Rattle.mend.proofs.Reading.{par-of, stands-no}
+use Rattle.mend.proofs.Only.{lives}
 use Rattle.tree.proofs.Reaching.{aged, live-reached, stands-all}
 
 -- ---- the node rows, each once

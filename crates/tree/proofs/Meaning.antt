@@ -17,13 +17,13 @@ use Rattle.laws.specs.Counting.{length-rows, get-rows}
 use Rattle.forest.specs.Contract.{Near, found, Up}
 use Rattle.forest.specs.Contract as contract
 use Rattle.forest.specs.TreeLaws.{Aged, up-of, of-up}
-use Rattle.tree.specs.Right as right
-use Rattle.tree.specs.Right.{stands}
-use Rattle.tree.specs.Line.{parOf, opt, Over, root, hit, on}
-use Rattle.tree.specs.Kept.{Kept}
+use Rattle.mend.specs.Right as right
+use Rattle.mend.specs.Right.{stands}
+use Rattle.mend.specs.Line.{parOf, opt, Over, root, hit, on}
+use Rattle.mend.specs.Kept.{Kept}
 use Rattle.tree.specs.Sweep.{Ahead, Swept}
 use Rattle.tree.specs.TreeAt.{code, columns, forestAt, standsAt, nodeRows, Flags, TreeAt}
-use Rattle.tree.proofs.Reading.{opt-none, opt-some, par-in}
+use Rattle.mend.proofs.Reading.{opt-none, opt-some, par-in}
 use Rattle.tree.proofs.Up.{over-one}
 use Rattle.tree.proofs.Reaching.{aged, live-reached, stands-all}
 use Rattle.tree.proofs.Placing.{placed, ahead-between}

@@ -10,12 +10,12 @@ use borrow.Author.Tests.{lt-ltb, le-ltb, ne-eqb}
 use lib.ListN.{length, getD, set}
 use lib.Seq.{getD-set-same, getD-set-other}
 use Rattle.meaning.specs.Words.{and}
-use Rattle.tree.specs.Right as right
-use Rattle.tree.specs.Right.{W, total, one, row, live, feeds, Grows}
-use Rattle.tree.specs.Line.{root}
-use Rattle.tree.specs.Kept.{Mended, Kept, Filled}
+use Rattle.mend.specs.Right as right
+use Rattle.mend.specs.Right.{W, total, one, row, live, feeds, Grows}
+use Rattle.mend.specs.Line.{root}
+use Rattle.mend.specs.Kept.{Mended, Kept, Filled}
 use Rattle.tree.specs.Sweep.{Index, Cut, Ahead, seen, Plan, Between, Swept, nextKey, nextChange}
-use Rattle.tree.proofs.Reading.{lt?, no-parent, opt-none}
+use Rattle.mend.proofs.Reading.{lt?, no-parent, opt-none}
 use Rattle.laws.specs.Bools.{clash, eq?}
 use Rattle.tree.proofs.Reaching.{no-row}
 use Rattle.tree.proofs.Seeing.{not-begun}

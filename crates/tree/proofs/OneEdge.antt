@@ -9,10 +9,10 @@ use lib.Dec.{eqb}
 use lib.ListN.{length, getD, set, length-set}
 use lib.Seq.{getD-set-same, getD-set-other}
 use Rattle.meaning.specs.Words.{and, or}
-use Rattle.tree.specs.Right.{none, one, row, live, feeds, By, Lacks, Excess, Right, Shape, Grows, climb}
-use Rattle.tree.specs.Kept.{Mended, Enters}
-use Rattle.tree.proofs.Mending.{shape-kept}
-use Rattle.tree.proofs.Totals.{and-false, and-true, More, grow, shrink}
+use Rattle.mend.specs.Right.{none, one, row, live, feeds, By, Lacks, Excess, Right, Shape, Grows, climb}
+use Rattle.mend.specs.Kept.{Mended, Enters}
+use Rattle.mend.proofs.Mending.{shape-kept}
+use Rattle.mend.proofs.Totals.{and-false, and-true, More, grow, shrink}
 
 -- an edge of a live row
 pub more-edge : (n : ℕ) (P Q : List ℕ) (L : ℕ → Bool) (c p : ℕ) → c < n → n ≤ none → ((v : ℕ) → (v ≡ c → ⊥) → getD P v 0 ≡ getD Q v 0) → getD P c 0 ≡ none → getD Q c 0 ≡ p → L c ≡ true → More n (feeds P L) (feeds Q L) p c

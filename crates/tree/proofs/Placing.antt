@@ -14,11 +14,11 @@ use Rattle.meaning.specs.Rows.{Edge, edgesOf}
 use Rattle.meaning.specs.Forest as def
 use Rattle.meaning.specs.Forest.{parentIn}
 use Rattle.laws.specs.Bools.{clash, and-of, and-yes, eq?, none-some}
-use Rattle.tree.specs.Right as right
-use Rattle.tree.specs.Line.{parOf}
+use Rattle.mend.specs.Right as right
+use Rattle.mend.specs.Line.{parOf}
 use Rattle.tree.specs.Sweep.{Ahead, Holds, acts, Plan}
 use Rattle.tree.specs.TreeAt.{columns, forestAt}
-use Rattle.tree.proofs.Reading.{lt?, of-par, no-parent, par-out}
+use Rattle.mend.proofs.Reading.{lt?, of-par, no-parent, par-out}
 use Rattle.tree.proofs.Seeing.{acts-of, of-acts, past-seen, next-seen, seen-past, seen-next}
 
 -- ---- the forest of the definitions, by rows

@@ -17,13 +17,13 @@ use Rattle.laws.specs.Facts.{In}
 use Rattle.forest.specs.Lines.{Above, here, step, trans}
 use Rattle.forest.specs.Contract.{Reached}
 use Rattle.forest.specs.TreeLaws.{Aged, reached-of, of-reached, feeds-of, of-feeds}
-use Rattle.tree.specs.Right as right
-use Rattle.tree.specs.Right.{pick, total, one, live, stands, feeds}
-use Rattle.tree.specs.Line.{parOf}
-use Rattle.tree.specs.Kept.{Mended}
+use Rattle.mend.specs.Right as right
+use Rattle.mend.specs.Right.{pick, total, one, live, stands, feeds}
+use Rattle.mend.specs.Line.{parOf}
+use Rattle.mend.specs.Kept.{Mended}
 use Rattle.tree.specs.TreeAt.{nodeRows, Flags}
-use Rattle.tree.proofs.Reading.{lt?, total-some, feeds-is, is-feeds, live-cases, live-sample, stands-no-sample, par-of, of-par, ranked}
-use Rattle.tree.proofs.Only.{lives}
+use Rattle.mend.proofs.Reading.{lt?, total-some, feeds-is, is-feeds, live-cases, live-sample, stands-no-sample, par-of, of-par, ranked}
+use Rattle.mend.proofs.Only.{lives}
 
 -- the rows of a test counted from the front and from the back
 count-from : (h : ℕ → Bool) (i k : ℕ) → count h (rowsFrom (λ v. v) i k) + total one h i ≡ total one h (i + k)

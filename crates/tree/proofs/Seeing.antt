@@ -11,7 +11,7 @@ use lib.Dec.{eqb}
 use lib.ListN.{length, getD}
 use Rattle.laws.specs.Bools.{clash, not-true, eq?}
 use Rattle.tree.specs.Sweep.{Index, Cut, seen, acts}
-use Rattle.tree.proofs.Reading.{lt?}
+use Rattle.mend.proofs.Reading.{lt?}
 
 -- ---- one cursor
 

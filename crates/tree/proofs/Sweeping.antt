@@ -8,8 +8,8 @@ use native.Mathlib.Omega.{arith}
 use lib.ListN.{length, getD, set, length-set}
 use lib.Seq.{getD-set-same, getD-set-other}
 use Rattle.laws.specs.Bools.{clash, eq?}
-use Rattle.tree.specs.Right as right
-use Rattle.tree.specs.Kept.{Enters}
+use Rattle.mend.specs.Right as right
+use Rattle.mend.specs.Kept.{Enters}
 use Rattle.tree.specs.Sweep.{Index, Cut, Holds, acts, Plan, Between}
 use Rattle.tree.proofs.Seeing.{not-seen, seen-here, acts-of, of-acts, not-acts, not-begun, acts-other, acts-still, past-seen, next-seen, seen-past, seen-next}
 

@@ -8,7 +8,7 @@ use native.Mathlib.Omega.{arith}
 use Rattle.meaning.specs.Forest.{Par}
 use Rattle.laws.specs.Bools.{some-inj, none-some, clash, eq?}
 use Rattle.forest.specs.Lines.{Ranked}
-use Rattle.tree.specs.Line.{Low, here, down, Over, root, hit, on, Pass, start, next, Lives, Edge}
+use Rattle.mend.specs.Line.{Low, here, down, Over, root, hit, on, Pass, start, next, Lives, Edge}
 
 module _ {P : Par} {K L : ℕ → Bool} (lv : Lives P K L) where
   pub low-one : {v w x : ℕ} → Low P K L v x → Low P K L w x → v ≡ w

@@ -5,9 +5,9 @@ use mathlib.Core.List.{List}
 use mathlib.Core.Logic.{_⊎_}
 use Prim.Native.Nat.{ℕ, zero, suc, _<_, _≤_}
 use lib.Dec.{eqb, ltb}
-use Rattle.tree.specs.Right.{pick}
+use Rattle.mend.specs.Right.{pick}
 use lib.ListN.{length, getD}
-use Rattle.tree.specs.Kept.{Kept}
+use Rattle.mend.specs.Kept.{Kept}
 
 -- what the rules 5 and 7 of the check find of the edges' columns (left, right, parent, child), for n node rows with the times T
 pub record Checked (T l r pa ch : List ℕ) (n : ℕ) : Type 0 where

@@ -9,8 +9,8 @@ use Rattle.meaning.specs.Words.{mem, rows}
 use Rattle.meaning.specs.Rows.{EdgeColumns, edgesOf}
 use Rattle.meaning.specs.Forest as def
 use Rattle.meaning.specs.Forest.{Par, parentIn, drawn}
-use Rattle.tree.specs.Right.{live, stands}
-use Rattle.tree.specs.Line.{parOf}
+use Rattle.mend.specs.Right.{live, stands}
+use Rattle.mend.specs.Line.{parOf}
 
 -- a row or none in a column
 unfoldable pub code : Option ℕ → ℕ

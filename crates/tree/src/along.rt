@@ -5,7 +5,7 @@ ghost use mathlib.Core.Path.{_≡_};
 ghost use mathlib.Core.List.{List};
 ghost use Prim.Native.Nat.{ℕ, _+_, _-_, _*_, _≤_};
 ghost use lib.ListN.{length};
-ghost use Rattle.tree.specs.Kept.{Kept, Noted};
+ghost use Rattle.mend.specs.Kept.{Kept, Noted};
 ghost use Rattle.tree.specs.Sweep.{Plan, Between, Swept, Index, nextKey, nextChange};
 ghost use Rattle.tree.specs.TreeAt.{columns, Flags, TreeAt};
 

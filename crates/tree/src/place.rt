@@ -1,15 +1,15 @@
 // The columns at one position: the start, with no edge, and the nearest standing row below.
 use super::NONE;
-use super::mend::alive;
-use super::mend::low;
+use mend::alive;
+use mend::low;
 ghost use mathlib.Core.Path.{_≡_};
 ghost use mathlib.Core.List.{List};
 ghost use Prim.Native.Nat.{ℕ, _<_};
 ghost use lib.ListN.{length, getD};
 ghost use Rattle.meaning.specs.Rows.{EdgeColumns};
-ghost use Rattle.tree.specs.Right.{W, Shape};
-ghost use Rattle.tree.specs.Line.{parOf};
-ghost use Rattle.tree.specs.Kept.{Mended, Filled};
+ghost use Rattle.mend.specs.Right.{W, Shape};
+ghost use Rattle.mend.specs.Line.{parOf};
+ghost use Rattle.mend.specs.Kept.{Mended, Filled};
 ghost use Rattle.tree.specs.Sweep.{Plan, Swept};
 ghost use Rattle.tree.specs.TreeAt.{forestAt, lowAt, code, Flags};
 

@@ -2,3 +2,4 @@
 pub mod Renamed
 pub mod Moving
 pub mod Room
+pub mod Block

@@ -16,6 +16,8 @@ use meaning::MutationTable;
 use meaning::NodeTable;
 use meaning::SiteTable;
 
+pub mod within; // within.rt: the room with the block of a call from C
+
 // A row number as an index.
 fn wide(x: u32) -> usize
     ensures { λ r. ⌜ r ≡ x ⌝ }

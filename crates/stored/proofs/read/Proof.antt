@@ -6,7 +6,7 @@ use lib.ListN.{length}
 use Rattle.meaning.specs.Rows.{Tables}
 use Rattle.meaning.specs.Answer.{room}
 use Rattle.stored.specs.Answers.{Roomed}
-use Rattle.stored.specs.declared.Layout.{Layout}
+use Rattle.form.specs.declared.Layout.{Layout}
 use Rattle.stored.specs.declared.Rows.{Rows}
 use Rattle.stored.proofs.Returning.{Whole, file-whole, ready, read-refused, read-lacks, read-done}
 use native.Mathlib.Omega.{arith}
@@ -15,18 +15,18 @@ use Rattle.stored.proofs.read.Statement.{statement}
 use Rattle.stored.proofs.read.Tie as tie
 use Rattle.stored.proofs.read.Reads as reads
 use Rattle.stored.proofs.read.Lts as lts
-use Rattle.stored.proofs.fill.edges.Reads as edges-reads
-use Rattle.stored.proofs.fill.get32.Reads as get32-reads
-use Rattle.stored.proofs.fill.mutations.Reads as mutations-reads
-use Rattle.stored.proofs.fill.nodes.Reads as nodes-reads
-use Rattle.stored.proofs.fill.samples.Reads as samples-reads
-use Rattle.stored.proofs.fill.sites.Reads as sites-reads
+use Rattle.form.proofs.fill.edges.Reads as edges-reads
+use Rattle.form.proofs.fill.get32.Reads as get32-reads
+use Rattle.form.proofs.fill.mutations.Reads as mutations-reads
+use Rattle.form.proofs.fill.nodes.Reads as nodes-reads
+use Rattle.form.proofs.fill.samples.Reads as samples-reads
+use Rattle.form.proofs.fill.sites.Reads as sites-reads
 use Rattle.stored.proofs.measure.found_rows.Reads as found-rows-reads
 use Rattle.stored.proofs.measure.lacking.Reads as lacking-reads
 use Rattle.stored.proofs.measure.least.Reads as least-reads
 use Rattle.stored.proofs.measure.least3.Reads as least3-reads
 use Rattle.stored.proofs.measure.least4.Reads as least4-reads
-use Rattle.stored.proofs.walk.scan.Reads as scan-reads
+use Rattle.form.proofs.walk.scan.Reads as scan-reads
 
 scan-requires : tie.Need-scan-requires
 scan-requires c κs = search needs

@@ -2,9 +2,9 @@
 use mathlib.Core.Path.{_≡_, refl, _∙_}
 use Prim.Native.Nat.{_+_, _-_, _*_, _≤_}
 use lib.ListN.{length}
-use Rattle.tree.specs.Kept.{Kept, Noted}
+use Rattle.mend.specs.Kept.{Kept, Noted}
 use Rattle.tree.specs.Sweep.{Between}
-use Rattle.tree.proofs.Touching.{noted-none, noted-then}
+use Rattle.mend.proofs.Touching.{noted-none, noted-then}
 use Rattle.tree.proofs.Sweeping.{plan-on, begin-enters, begin-one, begin-all}
 use native.Mathlib.Omega.{arith}
 use borrow.Author.Needs.{needs}
@@ -90,8 +90,7 @@ loop-again c =
     let inv : _ = c .before .before .before .before .before .before .before .before .before .before .before .before .before .before .before .before .before .before .before .before .before .before .loop .inv in
     let pl : _ = plan-on (inv .4) (c .before .before .before .before .before .before .before .before .before .before .before .before .before .before .before .before .before .before .before .before .before .before .before .before .before .before .before .before .before .before .before .before .before .before .before .before .pre .1) in
     let bt : _ = begin-one pl (inv .1) (c .before .before .before .before .before .before .before .before .before .before .before .before .before .before .before .before .before .before .before .before .before .loop-test .taken) (c .before .before .before .before .before .before .before .before .before .before .before .before .before .before .before .before .before .before .if1 .left) _ (c .before .before .before .before .before .before .before .before .before .before .insert-up .ensures .0) in
-    let kp : _ = c .before .before .before .before .before .before .before .before .before .before .insert-up .kept .1 .1 in
-    (c .before .before .before .before .before .before .before .before .before .before .insert-up .ensures .1, bt, noted-then (inv .7) (omega arith) (inv .2) (c .before .before .before .before .before .before .before .before .before .before .insert-up .ensures .2), omega arith, kp .0 ∙ inv .4, kp .1 .0 ∙ inv .5, kp .1 .1 .0 ∙ inv .6, kp .1 .1 .1 .0 ∙ inv .7, kp .1 .1 .1 .1 .0 ∙ inv .8)
+    (c .before .before .before .before .before .before .before .before .before .before .insert-up .ensures .1, bt, noted-then (inv .7) (omega arith) (inv .2) (c .before .before .before .before .before .before .before .before .before .before .insert-up .ensures .2), omega arith, c .before .before .before .before .before .before .before .before .before .before .insert-up .kept .1 .1 .0 ∙ inv .4, c .before .before .before .before .before .before .before .before .before .before .insert-up .kept .1 .1 .1 .0 ∙ inv .5, c .before .before .before .before .before .before .before .before .before .before .insert-up .kept .1 .1 .1 .1 .0 ∙ inv .6, c .before .before .before .before .before .before .before .before .before .before .insert-up .kept .1 .1 .1 .1 .1 .0 ∙ inv .7, c .before .before .before .before .before .before .before .before .before .before .insert-up .kept .1 .1 .1 .1 .1 .1 .0 ∙ inv .8)
 
 same-length-6 : tie.Need-same-length-6 Inv-loop μ-loop
 same-length-6 c = c .before .loop .inv .4

@@ -1,6 +1,6 @@
 -- `tree::edge::insert_up` meets its contract: the three cases of an edge more.
 use mathlib.Core.Path.{refl, sym, _∙_}
-use Rattle.tree.proofs.Touching.{noted-more, noted-none}
+use Rattle.mend.proofs.Touching.{noted-more, noted-none}
 use Rattle.tree.proofs.Inheriting.{heir-below}
 use Rattle.tree.proofs.Entering.{stop-live, entry, entered-same, entered-stand, entered-dead}
 use native.Mathlib.Omega.{arith}

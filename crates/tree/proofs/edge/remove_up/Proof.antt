@@ -1,6 +1,6 @@
 -- `tree::edge::remove_up` meets its contract: the three cases of an edge less.
 use mathlib.Core.Path.{refl, sym, _∙_}
-use Rattle.tree.proofs.Touching.{noted-more, noted-none}
+use Rattle.mend.proofs.Touching.{noted-more, noted-none}
 use Rattle.tree.proofs.Inheriting.{heir-below}
 use Rattle.tree.proofs.Leaving.{leave, left-same, left-fall, left-dead}
 use native.Mathlib.Omega.{arith}

@@ -1,0 +1,32 @@
+-- What the checks of a batch ask of the base: what 1, 4 and 5 find of nodes and edges.
+use mathlib.Core.Path.{_≡_}
+use Prim.Native.Nat.{ℕ, _+_, _<_, _≤_}
+use mathlib.Core.Bool.{false}
+use lib.ListN.{length}
+use Rattle.meaning.specs.Words.{at}
+use Rattle.meaning.specs.Rows.{NodeColumns, EdgeColumns, Tables}
+use Rattle.meaning.specs.Answer.{limits}
+use Rattle.meaning.specs.Check.{edgeShared}
+use Rattle.meaning.specs.Join.{BatchTables}
+use Rattle.bridge.specs.Columns.{Apart}
+use Rattle.ancestry.specs.Column.{Rising}
+use Rattle.batches.specs.Joint.{Joint}
+use Rattle.joint.specs.Sorting.{EdgeRoom}
+
+pub record BaseAsked (N : NodeColumns) (E : EdgeColumns) : Type 0 where
+  pub long : length (N .birth) ≡ length (N .time)
+  pub once : Apart (N .birth)
+  pub rising : Rising (N .time) E
+
+-- no two edges of a child share a position: what 7 and 24 find, with 5 and 23
+pub record Single (E : EdgeColumns) : Type 0 where
+  pub holds : (i : ℕ) → i < length (E .left) → at (E .left) i < at (E .right) i
+  pub apart : (i : ℕ) → i < length (E .left) → edgeShared E i ≡ false
+
+-- what writing the edges of a join asks: what 1 to 7 of the base and 20 to 24 of the batch find, and room
+pub record EdgesAsked (L : ℕ) (T : Tables) (B : BatchTables) (out : EdgeColumns) : Type 0 where
+  pub joint : Joint L T B
+  pub few : length (T .edges .left) + length (B .edges .left) ≤ limits .edges
+  pub base-single : Single (T .edges)
+  pub single : Single (B .edges)
+  pub room : EdgeRoom (length (T .edges .left) + length (B .edges .left)) out

@@ -1,0 +1,9 @@
+-- Laws of counts, sums and lines.
+pub mod Totals
+pub mod Reading
+pub mod Mending
+pub mod Upwards
+pub mod Only
+pub mod Climbing
+pub mod Falling
+pub mod Touching

@@ -1,0 +1,52 @@
+-- The state of the tree's columns between two edges, and the rows whose nearest standing row above was written.
+use mathlib.Core.Path.{_≡_}
+use mathlib.Core.Bool.{true, false}
+use mathlib.Core.List.{List}
+use Prim.Native.Nat.{ℕ, _+_, _<_, _≤_}
+use lib.ListN.{length, getD}
+use Rattle.mend.specs.Right.{live, stands, Right, Shape, Grows}
+use Rattle.mend.specs.Line.{parOf, opt, Low, Over}
+
+-- counts and sums are right for the parents
+pub record Mended (T S P C M : List ℕ) : Type 0 where
+  pub shape : Shape T S P C M
+  pub grows : Grows T P
+  pub right : Right S P C M
+
+-- the column U holds, at each row that stands, the nearest standing row above, and none at any other
+pub record UpOk (S P C U : List ℕ) : Type 0 where
+  pub long : length U ≡ length P
+  pub cell : (v : ℕ) → stands S C v ≡ true → Over (parOf P) (stands S C) (opt (getD U v 0)) v
+  pub idle : (v : ℕ) → v < length P → stands S C v ≡ false → getD U v 0 ≡ 4294967295
+
+-- all columns are right for the parents
+pub record Kept (T S P C M U : List ℕ) : Type 0 where
+  pub mended : Mended T S P C M
+  pub up : UpOk S P C U
+
+-- z is low for s where s is a row that does not stand, and none otherwise
+pub data Heir (S P C : List ℕ) (s z : ℕ) : Type 0 where
+  no-row : s ≡ 4294967295 → z ≡ 4294967295 → Heir S P C s z
+  stood : (s ≡ 4294967295 → ⊥) → stands S C s ≡ true → z ≡ 4294967295 → Heir S P C s z
+  below : (s ≡ 4294967295 → ⊥) → stands S C s ≡ false → z < length P → Low (parOf P) (stands S C) (live S C) z s → Heir S P C s z
+
+-- X lists from k to r, at most m of them, rows below n, among them every one whose cell differs between U and U'
+pub record Noted (n m : ℕ) (U U' X X' : List ℕ) (k r : ℕ) : Type 0 where
+  pub more : k ≤ r
+  pub few : r ≤ k + m
+  pub long : length X' ≡ length X
+  pub old : (i : ℕ) → i < k → getD X' i 0 ≡ getD X i 0
+  pub rows : (i : ℕ) → k ≤ i → i < r → getD X' i 0 < n
+  pub listed : (v : ℕ) → (getD U' v 0 ≡ getD U v 0 → ⊥) → (i : ℕ) × (k ≤ i) × (i < r) × (getD X' i 0 ≡ v)
+
+-- an edge from c to p may be put in: c has no parent yet, and p is older
+pub record Enters (T P : List ℕ) (c p : ℕ) : Type 0 where
+  pub child : c < length P
+  pub parent : p < length P
+  pub free : getD P c 0 ≡ 4294967295
+  pub older : getD T c 0 < getD T p 0
+
+-- the n cells of X are all v
+pub record Filled (X : List ℕ) (n v : ℕ) : Type 0 where
+  pub long : length X ≡ n
+  pub cells : (u : ℕ) → u < n → getD X u 0 ≡ v

@@ -1,0 +1,2 @@
+-- Laws of the mutations placed so far.
+pub mod Giving

@@ -1,0 +1,2 @@
+-- Mutations and their nearest standing rows.
+pub mod Placing
