@@ -1,3 +1,5 @@
--- Laws of moving cells and of heaps, over plain lists and numbers.
+-- Laws of moving cells, of heaps and of the passes by digits, over plain lists and numbers.
 pub mod Moves
 pub mod Heaps
+pub mod Places
+pub mod Scans

@@ -6,3 +6,7 @@ pub mod Counts
 pub mod Laws
 pub mod Mapped
 pub mod Tables
+pub mod Digits
+pub mod Dealing
+pub mod Stable
+pub mod Sorts
