@@ -1,19 +1,17 @@
 -- Columns filled in turn: cell by cell, with the members of a list at the front, and with marks on the rows of a list.
-use mathlib.Core.Path.{_≡_, refl, sym, ap, _∙_}
-use mathlib.Core.Bool.{Bool, true, false}
+use mathlib.Core.Path.{_≡_, sym, ap, _∙_}
+use mathlib.Core.Bool.{true}
 use mathlib.Core.List.{List, [], _∷_, _++_}
 use mathlib.Core.Logic.{⊎-elim}
-use Prim.Native.Nat.{ℕ, zero, suc, _+_, _<_, _≤_}
+use Prim.Native.Nat.{ℕ, suc, _+_, _<_, _≤_}
 use native.Mathlib.Omega.{arith}
-use lib.Dec.{eqb}
 use lib.ListN.{length, take, set, length-set}
 use lib.Seq.{ext-getD, getD-set-same, getD-set-other, take-suc, take-all, length-take-le}
-use borrow.Author.Tests.{eq-eqb}
-use Rattle.meaning.specs.Words.{at, mem, indexOf, rows}
+use Rattle.meaning.specs.Words.{at, mem, rows}
 use Rattle.meaning.specs.Answer.{put}
-use Rattle.laws.specs.Bools.{clash, eq?, bool-ext}
+use Rattle.laws.specs.Bools.{eq?, bool-ext}
 use Rattle.laws.specs.Counting.{length-rows, get-rows}
-use Rattle.laws.specs.Members.{mem-nil, mem-here, mem-cases, mem-left, mem-right, mem-split, index-at}
+use Rattle.laws.specs.Members.{mem-nil, mem-here, mem-cases, mem-left, mem-right, mem-split}
 use Rattle.order.specs.Counts.{bit}
 use Rattle.keeping.specs.Fronts.{put-more}
 
@@ -32,23 +30,6 @@ pub cells-rows : (f : ℕ → ℕ) (l : List ℕ) (n : ℕ) → length l ≡ n �
 cells-rows f l n e c =
     ext-getD 0 l (rows f n) (e ∙ sym (length-rows f n))
     (λ k h. c k (omega arith) ∙ sym (get-rows f 0 n k (omega arith)))
-
--- ---- the row of a birth number
-
--- the index is the first place
-pub index-first : (b : ℕ) (l : List ℕ) (i : ℕ) → i < length l → at l i ≡ b → indexOf b l ≤ i
-unfolding indexOf
-index-first b [] i h e = absurd (omega arith)
-index-first b (a ∷ l) i h e = go (eqb b a) refl i h e (λ j k q. index-first b l j k q)
-  where
-    go : (t : Bool) → eqb b a ≡ t → (i : ℕ) → i < length (a ∷ l) → at (a ∷ l) i ≡ b → ((j : ℕ) → j < length l → at l j ≡ b → indexOf b l ≤ j) → indexOf b (a ∷ l) ≤ i
-    go true q i h e ih = rw (q, indexOf) (omega arith)
-    go false q zero h e ih = absurd (clash (eq-eqb b a (sym e)) q)
-    go false q (suc i) h e ih = rw (q, indexOf) (omega (arith, ih i (omega arith) e))
-
--- a place before the index has another birth number, and the index is further on
-pub not-yet : (b : ℕ) (l : List ℕ) (i : ℕ) → mem b l ≡ true → i ≤ indexOf b l → (at l i ≡ b → ⊥) → i < indexOf b l
-not-yet b l i m h n = ⊎-elim (λ (q : i ≡ indexOf b l). absurd (n (ap (at l) q ∙ index-at b l m))) (λ (q : i ≡ indexOf b l → ⊥). omega arith) (eq? i (indexOf b l))
 
 -- ---- the members of a list in turn
 

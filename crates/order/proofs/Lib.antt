@@ -3,3 +3,4 @@ pub mod Moves
 pub mod Heaps
 pub mod Places
 pub mod Scans
+pub mod Lookup

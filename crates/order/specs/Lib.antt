@@ -10,3 +10,4 @@ pub mod Digits
 pub mod Dealing
 pub mod Stable
 pub mod Sorts
+pub mod Ranks

@@ -6,4 +6,3 @@ pub mod Halving
 pub mod Neighbours
 pub mod Sorting
 pub mod Walks
-pub mod Lookup

@@ -16,14 +16,6 @@ pub record Lined (R : ℕ → ℕ → Bool) (n : ℕ) (idx : List ℕ) : Type 0 
   pub once : (p q : ℕ) → p < q → q < n → at idx p ≡ at idx q → ⊥
   pub between : (p q r : ℕ) → p < q → q < r → r < n → R (at idx p) (at idx r) ≡ true → R (at idx p) (at idx q) ≡ true
 
--- the column has each row of l once, by their numbers
-pub record Ranked (l idx : List ℕ) : Type 0 where
-  pub long : length idx ≡ length l
-  pub row : (p : ℕ) → p < length l → at idx p < length l
-  pub place : (a : ℕ) → a < length l → (p : ℕ) × (p < length l) × (at idx p ≡ a)
-  pub once : (p q : ℕ) → p < q → q < length l → at idx p ≡ at idx q → ⊥
-  pub rising : (p q : ℕ) → p < q → q < length l → at l (at idx p) ≤ at l (at idx q)
-
 -- r is the first place from i on with a row below k, or the end where there is none
 pub record Next (idx : List ℕ) (k i r : ℕ) : Type 0 where
   pub after : i ≤ r

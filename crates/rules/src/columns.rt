@@ -36,12 +36,8 @@ pub fn has(l: &[u32], b: u32) -> bool
 pub fn first_unknown(birth: &[u32], samples: &[u32]) -> usize
     ensures { λ r. ⌜ r ≡ lowest (sampleUnknown (now (birth .entry)) (now (samples .entry))) (length (now (samples .entry))) ⌝ }
 {
-    let n = birth.len();
-    if NodeTable::MOST < n {
-        return crate::known::first_by_pairs(birth, samples);
-    }
     let mut idx = [0u32; NodeTable::MOST];
-    crate::known::first_by_order(birth, samples, &mut idx[..n])
+    crate::known::first_by_order(birth, samples, &mut idx)
 }
 
 // Whether the site of row i lies past the chromosome or not above the site before.

@@ -3,40 +3,18 @@
 ghost use mathlib.Core.Path.{_≡_};
 ghost use Prim.Native.Nat.{_≤_};
 ghost use lib.ListN.{length};
-ghost use Rattle.meaning.specs.Words.{lowest, mem};
+ghost use Rattle.meaning.specs.Words.{lowest};
 ghost use Rattle.meaning.specs.Check.{sampleUnknown};
-ghost use Rattle.rules.specs.Lined.{Ranked};
+ghost use Rattle.order.specs.Ranks.{Helps};
 
-// Whether some row of l has the number b, by halving the range of places at which it can stand.
-fn found(l: &[u32], idx: &[u32], b: u32) -> bool
-    requires { ⌜ Ranked (now l) (now idx) ⌝ }
-    ensures { λ r. ⌜ r ≡ mem b (now (l .entry)) ⌝ }
-{
-    let mut low = 0;
-    let mut high = idx.len();
-    while low < high {
-        let m = crate::places::middle(low, high);
-        let v = l[idx[m] as usize];
-        if v == b {
-            return true;
-        }
-        if v < b {
-            low = m + 1;
-        } else {
-            high = m;
-        }
-    }
-    false
-}
-
-// The lowest sample that is not found among the ranked births.
+// The lowest sample that is not found among the births.
 fn first_ranked(birth: &[u32], idx: &[u32], samples: &[u32]) -> usize
-    requires { ⌜ Ranked (now birth) (now idx) ⌝ }
+    requires { ⌜ Helps (now birth) (now idx) ⌝ }
     ensures { λ r. ⌜ r ≡ lowest (sampleUnknown (now (birth .entry)) (now (samples .entry))) (length (now (samples .entry))) ⌝ }
 {
     let mut i = 0;
     while i < samples.len() {
-        if !found(birth, idx, samples[i]) {
+        if !order::ranks::known(birth, idx, samples[i]) {
             return i;
         }
         i += 1;
@@ -44,25 +22,11 @@ fn first_ranked(birth: &[u32], idx: &[u32], samples: &[u32]) -> usize
     samples.len()
 }
 
-// The lowest sample that names no node; idx is a working column with a cell for each node.
+// The lowest sample that names no node; idx is a working column.
 pub fn first_by_order(birth: &[u32], samples: &[u32], idx: &mut [u32]) -> usize
-    requires { ⌜ (length (now idx) ≡ length (now birth)) × (length (now birth) ≤ 4294967296) ⌝ }
+    requires { ⌜ length (now idx) ≤ 4096 ⌝ }
     ensures { λ r. ⌜ r ≡ lowest (sampleUnknown (now (birth .entry)) (now (samples .entry))) (length (now (samples .entry))) ⌝ }
 {
-    crate::places::rank(birth, idx);
-    first_ranked(birth, idx, samples)
-}
-
-// The lowest such sample by a search through all births, for more births than any table has, which no check lets through.
-pub fn first_by_pairs(birth: &[u32], samples: &[u32]) -> usize
-    ensures { λ r. ⌜ r ≡ lowest (sampleUnknown (now (birth .entry)) (now (samples .entry))) (length (now (samples .entry))) ⌝ }
-{
-    let mut i = 0;
-    while i < samples.len() {
-        if !crate::columns::has(birth, samples[i]) {
-            return i;
-        }
-        i += 1;
-    }
-    samples.len()
+    let k = order::ranks::rank_front(birth, idx);
+    first_ranked(birth, &idx[..k], samples)
 }

@@ -45,7 +45,7 @@ fn first_lined(l: &[u32], idx: &[u32]) -> usize
     let mut low = 0;
     let mut high = l.len();
     while low < high {
-        let m = crate::places::middle(low, high);
+        let m = order::ranks::middle(low, high);
         if some_repeated(l, idx, m + 1) {
             high = m;
         } else {
@@ -57,10 +57,10 @@ fn first_lined(l: &[u32], idx: &[u32]) -> usize
 
 // The lowest repeated row; idx is a working column with a cell for each row.
 pub fn first_by_order(l: &[u32], idx: &mut [u32]) -> usize
-    requires { ⌜ (length (now idx) ≡ length (now l)) × (length (now l) ≤ 4294967296) ⌝ }
+    requires { ⌜ (length (now idx) ≡ length (now l)) × (length (now l) ≤ 4096) ⌝ }
     ensures { λ r. ⌜ r ≡ lowest (repeated (now (l .entry))) (length (now (l .entry))) ⌝ }
 {
-    crate::places::rank(l, idx);
+    order::ranks::rank(l, idx);
     first_lined(l, idx)
 }
 

@@ -59,7 +59,7 @@ fn first_lined(left: &[u32], right: &[u32], parent: &[u32], child: &[u32], idx: 
     let mut low = 0;
     let mut high = left.len();
     while low < high {
-        let m = crate::places::middle(low, high);
+        let m = order::ranks::middle(low, high);
         if some_shared(left, right, parent, child, idx, m + 1) {
             high = m;
         } else {

@@ -1,6 +1,6 @@
 -- `first_repeated` meets its contract: the working column stands on the stack.
 use mathlib.Core.Path.{sym}
-use Rattle.rules.proofs.Sorting.{front-long}
+use Rattle.order.specs.Tables.{front-long}
 use native.Mathlib.Omega.{arith}
 use borrow.Author.Needs.{needs}
 use Rattle.rules.proofs.columns.first_repeated.Statement.{statement}

@@ -1,6 +1,7 @@
 -- `first_shared` meets its contract: every edge holds somewhere, and the working column stands on the stack.
 use mathlib.Core.Path.{sym}
-use Rattle.rules.proofs.Sorting.{front-long, all-somewhere}
+use Rattle.order.specs.Tables.{front-long}
+use Rattle.rules.proofs.Sorting.{all-somewhere}
 use native.Mathlib.Omega.{arith}
 use borrow.Author.Needs.{needs}
 use Rattle.rules.proofs.edges.first_shared.Statement.{statement}

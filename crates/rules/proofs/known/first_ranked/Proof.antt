@@ -18,18 +18,18 @@ abbrev μ-loop : tie.MeasureT-loop
 loop-holds : tie.Need-loop-holds Inv-loop μ-loop
 loop-holds c = (search needs, sought-start _ _)
 
-mul-found : tie.Need-mul-found Inv-loop μ-loop
-mul-found c = search needs
+mul-known : tie.Need-mul-known Inv-loop μ-loop
+mul-known c = search needs
 
-shared-slice-read-found : tie.Need-shared-slice-read-found Inv-loop μ-loop
-shared-slice-read-found c = search needs
+shared-slice-read-known : tie.Need-shared-slice-read-known Inv-loop μ-loop
+shared-slice-read-known c = search needs
 
-found-requires : tie.Need-found-requires Inv-loop μ-loop
-found-requires c κs = search needs
+known-requires : tie.Need-known-requires Inv-loop μ-loop
+known-requires c κs = search needs
 
 returns : tie.Need-returns Inv-loop μ-loop
 unfolding sampleUnknown
-returns c = sought-hit _ _ _ (c .before .before .before .loop-test .taken) (c .before .before .before .before .loop .inv .1) (ap not (sym (c .before .found .ensures)) ∙ c .if1 .taken)
+returns c = sought-hit _ _ _ (c .before .before .before .loop-test .taken) (c .before .before .before .before .loop .inv .1) (ap not (sym (c .before .known .ensures)) ∙ c .if1 .taken)
 
 add-i : tie.Need-add-i Inv-loop μ-loop
 add-i c = search needs
@@ -39,7 +39,7 @@ loop-less c = search needs
 
 loop-again : tie.Need-loop-again Inv-loop μ-loop
 unfolding sampleUnknown
-loop-again c = (search needs, sought-miss _ _ _ (c .before .before .before .loop-test .taken) (c .before .before .before .before .loop .inv .1) (ap not (sym (c .before .found .ensures)) ∙ c .if1 .left))
+loop-again c = (search needs, sought-miss _ _ _ (c .before .before .before .loop-test .taken) (c .before .before .before .before .loop .inv .1) (ap not (sym (c .before .known .ensures)) ∙ c .if1 .left))
 
 returns-2 : tie.Need-returns-2 Inv-loop μ-loop
 returns-2 c = sought-none _ _ _ (c .before .loop .inv .0) (c .loop-test .left) (c .before .loop .inv .1)
@@ -51,9 +51,9 @@ first-ranked-spec =
     Inv-loop
     μ-loop
     loop-holds
-    mul-found
-    shared-slice-read-found
-    found-requires
+    mul-known
+    shared-slice-read-known
+    known-requires
     returns
     add-i
     loop-less

@@ -1,6 +1,7 @@
 -- `line_up` meets its contract: all edges, sorted by (child, left).
 use mathlib.Core.Path.{sym, _∙_}
-use Rattle.rules.proofs.Sorting.{own-rows, edges-lined, edge-keys}
+use Rattle.order.specs.Tables.{own-rows}
+use Rattle.rules.proofs.Sorting.{edges-lined, edge-keys}
 use borrow.Author.Needs.{needs}
 use Rattle.rules.proofs.shared.line_up.Statement.{statement}
 use Rattle.rules.proofs.shared.line_up.Tie as tie
