@@ -3,7 +3,7 @@ ghost use mathlib.Core.Path.{_≡_};
 ghost use Prim.Native.Nat.{ℕ, _<_, _≤_};
 ghost use lib.ListN.{length, replicate, set};
 ghost use Rattle.meaning.specs.Words.{at, rows};
-ghost use Rattle.meaning.specs.Rows.{EdgeColumns, MutationColumns, Tables, recordOf};
+ghost use Rattle.meaning.specs.Rows.{EdgeColumns, MutationColumns, Tables, nodeTable, edgeTable, siteTable, mutationTable, tables, recordOf};
 ghost use Rattle.meaning.specs.Forest.{near};
 ghost use Rattle.meaning.specs.Answer.{alleleOf, limits};
 ghost use Rattle.meaning.specs.Allele.{alleleAt, allele};
@@ -59,8 +59,11 @@ fn leave_state(has: &mut [u8], state: &mut [u8], v: u32, d: u8)
 
 // Goes over the mutations once: a node with one at site row i is marked, and its state is that of its last such row.
 fn fill(site: &[u32], node: &[u32], derived: &[u8], i: u32, has: &mut [u8], state: &mut [u8])
-    requires { ⌜ Naming (record { site = now site; node = now node; derived = now derived }) (length (now has)) × (length (now state) ≡ length (now has)) ⌝ }
-    ensures { λ _. ⌜ (now (has .exit) ≡ rows (markAfter (record { site = now (site .entry); node = now (node .entry); derived = now (derived .entry) }) i (now (has .entry))) (length (now (has .entry)))) × (now (state .exit) ≡ rows (stateAfter (record { site = now (site .entry); node = now (node .entry); derived = now (derived .entry) }) i (now (state .entry))) (length (now (state .entry)))) ⌝ }
+    requires { ⌜ Naming (mutationTable (now site) (now node) (now derived)) (length (now has)) × (length (now state) ≡ length (now has)) ⌝ }
+    ensures { λ _. ⌜
+        (now (has .exit) ≡ rows (markAfter
+        (mutationTable (now (site .entry)) (now (node .entry)) (now (derived .entry))) i (now (has .entry))) (length (now (has .entry)))) × (now (state .exit) ≡ rows (stateAfter
+        (mutationTable (now (site .entry)) (now (node .entry)) (now (derived .entry))) i (now (state .entry))) (length (now (state .entry)))) ⌝ }
 {
     let mut j = 0;
     while j < site.len() {
@@ -81,8 +84,11 @@ pub fn marks_at(
     has: &mut [u8],
     state: &mut [u8],
 )
-    requires { ⌜ Naming (record { site = now site; node = now node; derived = now derived }) (length (now has)) × (length (now state) ≡ length (now has)) ⌝ }
-    ensures { λ _. ⌜ (now (has .exit) ≡ marksOf (record { site = now (site .entry); node = now (node .entry); derived = now (derived .entry) }) i (length (now (has .entry)))) × (now (state .exit) ≡ statesOf (record { site = now (site .entry); node = now (node .entry); derived = now (derived .entry) }) i other (length (now (state .entry)))) ⌝ }
+    requires { ⌜ Naming (mutationTable (now site) (now node) (now derived)) (length (now has)) × (length (now state) ≡ length (now has)) ⌝ }
+    ensures { λ _. ⌜
+        (now (has .exit) ≡ marksOf
+        (mutationTable (now (site .entry)) (now (node .entry)) (now (derived .entry))) i (length (now (has .entry)))) × (now (state .exit) ≡ statesOf
+        (mutationTable (now (site .entry)) (now (node .entry)) (now (derived .entry))) i other (length (now (state .entry)))) ⌝ }
 {
     clear(has, 0);
     clear(state, other);
@@ -131,8 +137,11 @@ pub fn open_site(
     has: &mut [u8],
     state: &mut [u8],
 )
-    requires { ⌜ Fillable (record { left = now left; right = now right; parent = now parent; child = now child }) (record { site = now site; node = now node; derived = now derived }) (now par) (now has) (now state) ⌝ }
-    ensures { λ _. ⌜ Opened (record { left = now (left .entry); right = now (right .entry); parent = now (parent .entry); child = now (child .entry) }) (record { site = now (site .entry); node = now (node .entry); derived = now (derived .entry) }) x i other (length (now (par .entry))) (now (par .exit)) (now (has .exit)) (now (state .exit)) ⌝ }
+    requires { ⌜ Fillable (edgeTable (now left) (now right) (now parent) (now child)) (mutationTable (now site) (now node) (now derived)) (now par) (now has) (now state) ⌝ }
+    ensures { λ _. ⌜
+        Opened
+        (edgeTable (now (left .entry)) (now (right .entry)) (now (parent .entry)) (now (child .entry)))
+        (mutationTable (now (site .entry)) (now (node .entry)) (now (derived .entry))) x i other (length (now (par .entry))) (now (par .exit)) (now (has .exit)) (now (state .exit)) ⌝ }
 {
     ancestry::parents_at(left, right, parent, child, x, par);
     marks_at(site, node, derived, i, other, has, state);
@@ -154,8 +163,21 @@ pub fn state_of(
     i: u32,
     u: u32,
 ) -> u8
-    requires { ⌜ Readable (record { nodes = record { time = now time; birth = now birth }; edges = record { left = now left; right = now right; parent = now parent; child = now child }; sites = record { position = now position; ancestral = now ancestral }; muts = record { site = now site; node = now node; derived = now derived } }) × (i < length (now position)) × (u < length (now time)) ⌝ }
-    ensures { λ r. ⌜ ((L : ℕ) → r ≡ alleleAt (recordOf L (record { nodes = record { time = now (time .entry); birth = now (birth .entry) }; edges = record { left = now (left .entry); right = now (right .entry); parent = now (parent .entry); child = now (child .entry) }; sites = record { position = now (position .entry); ancestral = now (ancestral .entry) }; muts = record { site = now (site .entry); node = now (node .entry); derived = now (derived .entry) } })) i (at (now (birth .entry)) u)) ⌝ }
+    requires { ⌜
+        Readable
+        (tables
+        (nodeTable (now time) (now birth))
+        (edgeTable (now left) (now right) (now parent) (now child))
+        (siteTable (now position) (now ancestral))
+        (mutationTable (now site) (now node) (now derived))) × (i < length (now position)) × (u < length (now time)) ⌝ }
+    ensures { λ r. ⌜
+        ((L : ℕ) → r
+        ≡ alleleAt (recordOf L
+        (tables
+        (nodeTable (now (time .entry)) (now (birth .entry)))
+        (edgeTable (now (left .entry)) (now (right .entry)) (now (parent .entry)) (now (child .entry)))
+        (siteTable (now (position .entry)) (now (ancestral .entry)))
+        (mutationTable (now (site .entry)) (now (node .entry)) (now (derived .entry))))) i (at (now (birth .entry)) u)) ⌝ }
 {
     let x = position[i as usize];
     let other = ancestral[i as usize];
@@ -196,8 +218,21 @@ fn read_allele(
     i: u32,
     b: u32,
 ) -> Allele
-    requires { ⌜ Readable (record { nodes = record { time = now time; birth = now birth }; edges = record { left = now left; right = now right; parent = now parent; child = now child }; sites = record { position = now position; ancestral = now ancestral }; muts = record { site = now site; node = now node; derived = now derived } }) ⌝ }
-    ensures { λ r. ⌜ ((L : ℕ) → alleleOf r ≡ readAllele L (record { nodes = record { time = now (time .entry); birth = now (birth .entry) }; edges = record { left = now (left .entry); right = now (right .entry); parent = now (parent .entry); child = now (child .entry) }; sites = record { position = now (position .entry); ancestral = now (ancestral .entry) }; muts = record { site = now (site .entry); node = now (node .entry); derived = now (derived .entry) } }) i b) ⌝ }
+    requires { ⌜
+        Readable
+        (tables
+        (nodeTable (now time) (now birth))
+        (edgeTable (now left) (now right) (now parent) (now child))
+        (siteTable (now position) (now ancestral))
+        (mutationTable (now site) (now node) (now derived))) ⌝ }
+    ensures { λ r. ⌜
+        ((L : ℕ) → alleleOf r
+        ≡ readAllele L
+        (tables
+        (nodeTable (now (time .entry)) (now (birth .entry)))
+        (edgeTable (now (left .entry)) (now (right .entry)) (now (parent .entry)) (now (child .entry)))
+        (siteTable (now (position .entry)) (now (ancestral .entry)))
+        (mutationTable (now (site .entry)) (now (node .entry)) (now (derived .entry)))) i b) ⌝ }
 {
     if position.len() <= i as usize {
         return Allele::Refused(Refusal::NoSite);
@@ -239,7 +274,14 @@ pub fn allele(
     i: u32,
     b: u32,
 ) -> Allele
-    ensures { λ r. ⌜ alleleOf r ≡ allele limits len (record { nodes = record { time = now (time .entry); birth = now (birth .entry) }; edges = record { left = now (left .entry); right = now (right .entry); parent = now (parent .entry); child = now (child .entry) }; sites = record { position = now (position .entry); ancestral = now (ancestral .entry) }; muts = record { site = now (site .entry); node = now (node .entry); derived = now (derived .entry) } }) i b ⌝ }
+    ensures { λ r. ⌜
+        alleleOf r
+        ≡ allele limits len
+        (tables
+        (nodeTable (now (time .entry)) (now (birth .entry)))
+        (edgeTable (now (left .entry)) (now (right .entry)) (now (parent .entry)) (now (child .entry)))
+        (siteTable (now (position .entry)) (now (ancestral .entry)))
+        (mutationTable (now (site .entry)) (now (node .entry)) (now (derived .entry)))) i b ⌝ }
 {
     match checker::check_tables(
         len,

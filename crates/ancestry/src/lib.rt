@@ -3,7 +3,7 @@ ghost use mathlib.Core.Path.{_≡_};
 ghost use Prim.Native.Nat.{ℕ, _<_, _≤_};
 ghost use lib.ListN.{length, replicate};
 ghost use Rattle.meaning.specs.Words.{rows, lowest};
-ghost use Rattle.meaning.specs.Rows.{EdgeColumns, MutationColumns, edgesOf};
+ghost use Rattle.meaning.specs.Rows.{EdgeColumns, MutationColumns, edgeTable, mutationTable, edgesOf};
 ghost use Rattle.meaning.specs.Answer.{limits};
 ghost use Rattle.meaning.specs.Check.{mutationAbove};
 ghost use Rattle.ancestry.specs.Column.{code, parOf, parentRow, Fitting, Rising};
@@ -44,8 +44,8 @@ pub fn parents_at(
     x: u32,
     par: &mut [u32],
 )
-    requires { ⌜ Fitting (record { left = now left; right = now right; parent = now parent; child = now child }) (length (now par)) ⌝ }
-    ensures { λ _. ⌜ now (par .exit) ≡ rows (λ u. code (parentRow (record { left = now (left .entry); right = now (right .entry); parent = now (parent .entry); child = now (child .entry) }) x u)) (length (now (par .entry))) ⌝ }
+    requires { ⌜ Fitting (edgeTable (now left) (now right) (now parent) (now child)) (length (now par)) ⌝ }
+    ensures { λ _. ⌜ now (par .exit) ≡ rows (λ u. code (parentRow (edgeTable (now (left .entry)) (now (right .entry)) (now (parent .entry)) (now (child .entry))) x u)) (length (now (par .entry))) ⌝ }
 {
     clear(par, ParentColumn::NONE);
     let mut j = left.len();
@@ -89,8 +89,14 @@ pub fn first_above(
     node: &[u32],
     derived: &[u8],
 ) -> usize
-    requires { ⌜ (length (now time) ≤ limits .nodes) × (length (now left) ≤ limits .edges) × (length (now position) ≤ limits .sites) × Rising (now time) (record { left = now left; right = now right; parent = now parent; child = now child }) × Single (now left) (now right) (now child) × Rightwards (now position) × Lined (length (now position)) (length (now time)) (now site) (now node) ⌝ }
-    ensures { λ r. ⌜ r ≡ lowest (mutationAbove (edgesOf (λ x. x) (record { left = now (left .entry); right = now (right .entry); parent = now (parent .entry); child = now (child .entry) })) (now (position .entry)) (λ x. x) (record { site = now (site .entry); node = now (node .entry); derived = now (derived .entry) })) (length (now (site .entry))) ⌝ }
+    requires { ⌜
+        (length (now time) ≤ limits .nodes) × (length (now left) ≤ limits .edges) × (length (now position) ≤ limits .sites) × Rising (now time)
+        (edgeTable (now left) (now right) (now parent) (now child)) × Single (now left) (now right) (now child) × Rightwards (now position) × Lined (length (now position)) (length (now time)) (now site) (now node) ⌝ }
+    ensures { λ r. ⌜
+        r
+        ≡ lowest (mutationAbove (edgesOf (λ x. x)
+        (edgeTable (now (left .entry)) (now (right .entry)) (now (parent .entry)) (now (child .entry)))) (now (position .entry)) (λ x. x)
+        (mutationTable (now (site .entry)) (now (node .entry)) (now (derived .entry)))) (length (now (site .entry))) ⌝ }
 {
     if !stamps::some_pair(site) {
         return site.len();

@@ -3,7 +3,7 @@ ghost use mathlib.Core.Path.{_≡_};
 ghost use Prim.Native.Nat.{ℕ, _+_, _<_, _≤_};
 ghost use lib.ListN.{length};
 ghost use Rattle.meaning.specs.Words.{at, lowest};
-ghost use Rattle.meaning.specs.Rows.{EdgeColumns};
+ghost use Rattle.meaning.specs.Rows.{EdgeColumns, edgeTable};
 ghost use Rattle.ancestry.specs.Column.{no-row, code, parentRow, Even, Rising};
 ghost use Rattle.ancestry.specs.Arrivals.{Rightwards, Current, Along, Listed};
 ghost use Rattle.ancestry.specs.Stamps.{Stampable, StampedUp};
@@ -20,8 +20,8 @@ fn parent_now(
     x: u32,
     u: u32,
 ) -> u32
-    requires { ⌜ Even (record { left = now left; right = now right; parent = now parent; child = now child }) × Current (now left) (now right) (now child) x (now cur) × (u < length (now cur)) ⌝ }
-    ensures { λ r. ⌜ r ≡ code (parentRow (record { left = now (left .entry); right = now (right .entry); parent = now (parent .entry); child = now (child .entry) }) x u) ⌝ }
+    requires { ⌜ Even (edgeTable (now left) (now right) (now parent) (now child)) × Current (now left) (now right) (now child) x (now cur) × (u < length (now cur)) ⌝ }
+    ensures { λ r. ⌜ r ≡ code (parentRow (edgeTable (now (left .entry)) (now (right .entry)) (now (parent .entry)) (now (child .entry))) x u) ⌝ }
 {
     let c = cur[u as usize];
     if c == 0 {
@@ -51,8 +51,8 @@ fn stamp_up(
     stamps: &mut [u32],
     u: u32,
 )
-    requires { ⌜ Stampable (now time) (record { left = now left; right = now right; parent = now parent; child = now child }) x t (now cur) (now stamps) u ⌝ }
-    ensures { λ _. ⌜ StampedUp (parentRow (record { left = now (left .entry); right = now (right .entry); parent = now (parent .entry); child = now (child .entry) }) x) t u (now (stamps .entry)) (now (stamps .exit)) ⌝ }
+    requires { ⌜ Stampable (now time) (edgeTable (now left) (now right) (now parent) (now child)) x t (now cur) (now stamps) u ⌝ }
+    ensures { λ _. ⌜ StampedUp (parentRow (edgeTable (now (left .entry)) (now (right .entry)) (now (parent .entry)) (now (child .entry))) x) t u (now (stamps .entry)) (now (stamps .exit)) ⌝ }
 {
     let p = parent_now(left, right, parent, child, cur, x, u);
     if p == ParentColumn::NONE {
@@ -115,8 +115,14 @@ fn stamp_above(
     i: usize,
     stamps: &mut [u32],
 )
-    requires { ⌜ Ordered (now time) (record { left = now left; right = now right; parent = now parent; child = now child }) (now position) (now site) (now node) (length (now cur)) × (length (now stamps) ≡ length (now cur)) × (i < length (now site)) × Along (now left) (now right) (now child) (now position) (at (now site) i + 1) (now cur) × Ready (record { left = now left; right = now right; parent = now parent; child = now child }) (now position) (now site) (now node) (at (now site) i) i (now stamps) × Rightwards (now position) ⌝ }
-    ensures { λ _. ⌜ ReadyNext (record { left = now (left .entry); right = now (right .entry); parent = now (parent .entry); child = now (child .entry) }) (now (position .entry)) (now (site .entry)) (now (node .entry)) i (now (stamps .exit)) ⌝ }
+    requires { ⌜
+        Ordered (now time)
+        (edgeTable (now left) (now right) (now parent) (now child)) (now position) (now site) (now node) (length (now cur)) × (length (now stamps)
+        ≡ length (now cur)) × (i < length (now site)) × Along (now left) (now right) (now child) (now position) (at (now site) i + 1) (now cur) × Ready
+        (edgeTable (now left) (now right) (now parent) (now child)) (now position) (now site) (now node) (at (now site) i) i (now stamps) × Rightwards (now position) ⌝ }
+    ensures { λ _. ⌜
+        ReadyNext
+        (edgeTable (now (left .entry)) (now (right .entry)) (now (parent .entry)) (now (child .entry))) (now (position .entry)) (now (site .entry)) (now (node .entry)) i (now (stamps .exit)) ⌝ }
 {
     if ends_site(site, i) {
         return;
@@ -152,8 +158,13 @@ pub fn lowest_above(
     cur: &mut [u32],
     stamps: &mut [u32],
 ) -> usize
-    requires { ⌜ Ordered (now time) (record { left = now left; right = now right; parent = now parent; child = now child }) (now position) (now site) (now node) (length (now cur)) × (length (now stamps) ≡ length (now cur)) × Listed (now left) (now right) (now child) (now position) (now first) (now next) (length (now cur)) × ((u : ℕ) → at (now cur) u ≡ 0) × ((u : ℕ) → at (now stamps) u ≡ 0) ⌝ }
-    ensures { λ r. ⌜ r ≡ lowest (overtaken (record { left = now (left .entry); right = now (right .entry); parent = now (parent .entry); child = now (child .entry) }) (now (position .entry)) (now (site .entry)) (now (node .entry))) (length (now (site .entry))) ⌝ }
+    requires { ⌜
+        Ordered (now time)
+        (edgeTable (now left) (now right) (now parent) (now child)) (now position) (now site) (now node) (length (now cur)) × (length (now stamps) ≡ length (now cur)) × Listed (now left) (now right) (now child) (now position) (now first) (now next) (length (now cur)) × ((u : ℕ) → at (now cur) u ≡ 0) × ((u : ℕ) → at (now stamps) u ≡ 0) ⌝ }
+    ensures { λ r. ⌜
+        r
+        ≡ lowest (overtaken
+        (edgeTable (now (left .entry)) (now (right .entry)) (now (parent .entry)) (now (child .entry))) (now (position .entry)) (now (site .entry)) (now (node .entry))) (length (now (site .entry))) ⌝ }
 {
     let mut i = 0;
     while i < site.len() {

@@ -9,7 +9,7 @@ ghost use Rattle.ancestry.specs.Overtaken.{overtaken};
 ghost use Rattle.batches.specs.Marked.{Markers, MarkedBy, Unlined};
 ghost use Rattle.batches.specs.Asked.{Above};
 ghost use mathlib.Core.List.{[], _++_};
-ghost use Rattle.meaning.specs.Rows.{edgesOf};
+ghost use Rattle.meaning.specs.Rows.{edgeTable, edgesOf};
 ghost use Rattle.meaning.specs.Check.{mutationAbove};
 use meaning::EdgeTable;
 use meaning::MutationTable;
@@ -66,8 +66,8 @@ fn above_at(
     node: &[u32],
     i: usize,
 ) -> bool
-    requires { ⌜ Unlined (now time) (record { left = now left; right = now right; parent = now parent; child = now child }) (length (now position)) (now site) (now node) × (i < length (now site)) ⌝ }
-    ensures { λ r. ⌜ r ≡ overtaken (record { left = now (left .entry); right = now (right .entry); parent = now (parent .entry); child = now (child .entry) }) (now (position .entry)) (now (site .entry)) (now (node .entry)) i ⌝ }
+    requires { ⌜ Unlined (now time) (edgeTable (now left) (now right) (now parent) (now child)) (length (now position)) (now site) (now node) × (i < length (now site)) ⌝ }
+    ensures { λ r. ⌜ r ≡ overtaken (edgeTable (now (left .entry)) (now (right .entry)) (now (parent .entry)) (now (child .entry))) (now (position .entry)) (now (site .entry)) (now (node .entry)) i ⌝ }
 {
     let mut par = [0u32; meaning::NodeTable::MOST];
     let mut marks = [0u8; meaning::NodeTable::MOST];
@@ -90,8 +90,11 @@ pub fn lowest_overtaken(
     site: &[u32],
     node: &[u32],
 ) -> usize
-    requires { ⌜ Unlined (now time) (record { left = now left; right = now right; parent = now parent; child = now child }) (length (now position)) (now site) (now node) ⌝ }
-    ensures { λ r. ⌜ r ≡ lowest (overtaken (record { left = now (left .entry); right = now (right .entry); parent = now (parent .entry); child = now (child .entry) }) (now (position .entry)) (now (site .entry)) (now (node .entry))) (length (now (site .entry))) ⌝ }
+    requires { ⌜ Unlined (now time) (edgeTable (now left) (now right) (now parent) (now child)) (length (now position)) (now site) (now node) ⌝ }
+    ensures { λ r. ⌜
+        r
+        ≡ lowest (overtaken
+        (edgeTable (now (left .entry)) (now (right .entry)) (now (parent .entry)) (now (child .entry))) (now (position .entry)) (now (site .entry)) (now (node .entry))) (length (now (site .entry))) ⌝ }
 {
     let mut i = 0;
     while i < site.len() {
@@ -121,8 +124,15 @@ pub fn first_batch_above(
     site: &[u32],
     node: &[u32],
 ) -> usize
-    requires { ⌜ Above (now basetime) (now basebirth) (record { left = now baseleft; right = now baseright; parent = now baseparent; child = now basechild }) (now position) (now time) (now birth) (record { left = now left; right = now right; parent = now parent; child = now child }) (now site) (now node) ⌝ }
-    ensures { λ r. ⌜ r ≡ lowest (mutationAbove (edgesOf (at (now (basebirth .entry))) (record { left = now (baseleft .entry); right = now (baseright .entry); parent = now (baseparent .entry); child = now (basechild .entry) }) ++ edgesOf (λ b. b) (record { left = now (left .entry); right = now (right .entry); parent = now (parent .entry); child = now (child .entry) })) (now (position .entry)) (λ b. b) (record { site = now (site .entry); node = now (node .entry); derived = [] })) (length (now (site .entry))) ⌝ }
+    requires { ⌜
+        Above (now basetime) (now basebirth)
+        (edgeTable (now baseleft) (now baseright) (now baseparent) (now basechild)) (now position) (now time) (now birth)
+        (edgeTable (now left) (now right) (now parent) (now child)) (now site) (now node) ⌝ }
+    ensures { λ r. ⌜
+        r
+        ≡ lowest (mutationAbove (edgesOf (at (now (basebirth .entry)))
+        (edgeTable (now (baseleft .entry)) (now (baseright .entry)) (now (baseparent .entry)) (now (basechild .entry))) ++ edgesOf (λ b. b)
+        (edgeTable (now (left .entry)) (now (right .entry)) (now (parent .entry)) (now (child .entry)))) (now (position .entry)) (λ b. b) (record { site = now (site .entry); node = now (node .entry); derived = [] })) (length (now (site .entry))) ⌝ }
 {
     let mut alltime = [0u32; NodeTable::MOST];
     let mut allleft = [0u32; EdgeTable::MOST];

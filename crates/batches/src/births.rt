@@ -2,6 +2,7 @@
 ghost use mathlib.Core.Path.{_≡_};
 ghost use lib.ListN.{length};
 ghost use Rattle.meaning.specs.Words.{at, mem, indexOf, lowest};
+ghost use Rattle.meaning.specs.Rows.{nodeTable};
 ghost use Rattle.meaning.specs.Join.{batchBirth, timeIn};
 
 // The row of the birth b, or the number of rows where no row has it.
@@ -47,7 +48,7 @@ pub fn first_batch_birth(base: &[u32], birth: &[u32]) -> usize
 // The time of the birth b, of the base or of the batch; 0 where neither has it.
 pub fn time_of(basetime: &[u32], basebirth: &[u32], time: &[u32], birth: &[u32], b: u32) -> u32
     requires { ⌜ (length (now basebirth) ≡ length (now basetime)) × (length (now birth) ≡ length (now time)) ⌝ }
-    ensures { λ r. ⌜ r ≡ timeIn (record { time = now (basetime .entry); birth = now (basebirth .entry) }) (record { time = now (time .entry); birth = now (birth .entry) }) b ⌝ }
+    ensures { λ r. ⌜ r ≡ timeIn (nodeTable (now (basetime .entry)) (now (basebirth .entry))) (nodeTable (now (time .entry)) (now (birth .entry))) b ⌝ }
 {
     let i = row_of(basebirth, b);
     if i < basetime.len() {

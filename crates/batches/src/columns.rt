@@ -4,6 +4,7 @@ ghost use mathlib.Core.List.{_++_, map};
 ghost use Prim.Native.Nat.{_+_, _<_, _≤_};
 ghost use lib.ListN.{length};
 ghost use Rattle.meaning.specs.Words.{at, indexOf};
+ghost use Rattle.meaning.specs.Rows.{edgeTable};
 ghost use Rattle.meaning.specs.Answer.{put, limits};
 ghost use Rattle.order.specs.Order.{Inside};
 ghost use Rattle.batches.specs.Joint.{rowsIn, jointEdges, JointRoom, JointPut};
@@ -144,8 +145,17 @@ pub fn joint_columns(
     outparent: &mut [u32],
     outchild: &mut [u32],
 )
-    requires { ⌜ JointRoom (now basebirth) (now birth) (record { left = now baseleft; right = now baseright; parent = now baseparent; child = now basechild }) (record { left = now left; right = now right; parent = now parent; child = now child }) (record { left = now outleft; right = now outright; parent = now outparent; child = now outchild }) ⌝ }
-    ensures { λ _. ⌜ JointPut (jointEdges (now (basebirth .entry) ++ now (birth .entry)) (record { left = now (baseleft .entry); right = now (baseright .entry); parent = now (baseparent .entry); child = now (basechild .entry) }) (record { left = now (left .entry); right = now (right .entry); parent = now (parent .entry); child = now (child .entry) })) (record { left = now (outleft .entry); right = now (outright .entry); parent = now (outparent .entry); child = now (outchild .entry) }) (record { left = now (outleft .exit); right = now (outright .exit); parent = now (outparent .exit); child = now (outchild .exit) }) ⌝ }
+    requires { ⌜
+        JointRoom (now basebirth) (now birth)
+        (edgeTable (now baseleft) (now baseright) (now baseparent) (now basechild))
+        (edgeTable (now left) (now right) (now parent) (now child))
+        (edgeTable (now outleft) (now outright) (now outparent) (now outchild)) ⌝ }
+    ensures { λ _. ⌜
+        JointPut (jointEdges (now (basebirth .entry) ++ now (birth .entry))
+        (edgeTable (now (baseleft .entry)) (now (baseright .entry)) (now (baseparent .entry)) (now (basechild .entry)))
+        (edgeTable (now (left .entry)) (now (right .entry)) (now (parent .entry)) (now (child .entry))))
+        (edgeTable (now (outleft .entry)) (now (outright .entry)) (now (outparent .entry)) (now (outchild .entry)))
+        (edgeTable (now (outleft .exit)) (now (outright .exit)) (now (outparent .exit)) (now (outchild .exit))) ⌝ }
 {
     append(baseleft, left, outleft);
     append(baseright, right, outright);

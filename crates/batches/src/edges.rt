@@ -4,6 +4,7 @@ ghost use mathlib.Core.Bool.{not};
 ghost use Prim.Native.Nat.{_<_};
 ghost use lib.ListN.{length};
 ghost use Rattle.meaning.specs.Words.{or, mem, lowest};
+ghost use Rattle.meaning.specs.Rows.{nodeTable, edgeTable};
 ghost use Rattle.meaning.specs.Join.{batchEdge};
 ghost use Rattle.rules.specs.Asked.{EvenEdges};
 
@@ -31,8 +32,15 @@ fn batch_edge_at(
     child: &[u32],
     i: usize,
 ) -> bool
-    requires { ⌜ (i < length (now left)) × (length (now basebirth) ≡ length (now basetime)) × (length (now birth) ≡ length (now time)) × EvenEdges (record { left = now left; right = now right; parent = now parent; child = now child }) ⌝ }
-    ensures { λ r. ⌜ r ≡ batchEdge len (record { time = now (basetime .entry); birth = now (basebirth .entry) }) (record { time = now (time .entry); birth = now (birth .entry) }) (record { left = now (left .entry); right = now (right .entry); parent = now (parent .entry); child = now (child .entry) }) i ⌝ }
+    requires { ⌜
+        (i < length (now left)) × (length (now basebirth) ≡ length (now basetime)) × (length (now birth) ≡ length (now time)) × EvenEdges
+        (edgeTable (now left) (now right) (now parent) (now child)) ⌝ }
+    ensures { λ r. ⌜
+        r
+        ≡ batchEdge len
+        (nodeTable (now (basetime .entry)) (now (basebirth .entry)))
+        (nodeTable (now (time .entry)) (now (birth .entry)))
+        (edgeTable (now (left .entry)) (now (right .entry)) (now (parent .entry)) (now (child .entry))) i ⌝ }
 {
     if !rules::columns::has(birth, child[i]) {
         return true;
@@ -63,8 +71,13 @@ pub fn first_batch_edge(
     parent: &[u32],
     child: &[u32],
 ) -> usize
-    requires { ⌜ (length (now basebirth) ≡ length (now basetime)) × (length (now birth) ≡ length (now time)) × EvenEdges (record { left = now left; right = now right; parent = now parent; child = now child }) ⌝ }
-    ensures { λ r. ⌜ r ≡ lowest (batchEdge len (record { time = now (basetime .entry); birth = now (basebirth .entry) }) (record { time = now (time .entry); birth = now (birth .entry) }) (record { left = now (left .entry); right = now (right .entry); parent = now (parent .entry); child = now (child .entry) })) (length (now (left .entry))) ⌝ }
+    requires { ⌜ (length (now basebirth) ≡ length (now basetime)) × (length (now birth) ≡ length (now time)) × EvenEdges (edgeTable (now left) (now right) (now parent) (now child)) ⌝ }
+    ensures { λ r. ⌜
+        r
+        ≡ lowest (batchEdge len
+        (nodeTable (now (basetime .entry)) (now (basebirth .entry)))
+        (nodeTable (now (time .entry)) (now (birth .entry)))
+        (edgeTable (now (left .entry)) (now (right .entry)) (now (parent .entry)) (now (child .entry)))) (length (now (left .entry))) ⌝ }
 {
     let mut i = 0;
     while i < left.len() {

@@ -3,6 +3,7 @@ ghost use mathlib.Core.Path.{_≡_};
 ghost use Prim.Native.Nat.{_<_};
 ghost use lib.ListN.{length};
 ghost use Rattle.meaning.specs.Words.{lowest};
+ghost use Rattle.meaning.specs.Rows.{mutationTable};
 ghost use Rattle.meaning.specs.Join.{batchMutation};
 
 // Whether batch mutation i names no site, or no batch node.
@@ -15,7 +16,7 @@ fn batch_mutation_at(
     i: usize,
 ) -> bool
     requires { ⌜ (i < length (now site)) × (length (now node) ≡ length (now site)) ⌝ }
-    ensures { λ r. ⌜ r ≡ batchMutation sites (now (birth .entry)) (record { site = now (site .entry); node = now (node .entry); derived = now (derived .entry) }) i ⌝ }
+    ensures { λ r. ⌜ r ≡ batchMutation sites (now (birth .entry)) (mutationTable (now (site .entry)) (now (node .entry)) (now (derived .entry))) i ⌝ }
 {
     if sites <= site[i] as usize {
         return true;
@@ -32,7 +33,7 @@ pub fn first_batch_mutation(
     derived: &[u8],
 ) -> usize
     requires { ⌜ length (now node) ≡ length (now site) ⌝ }
-    ensures { λ r. ⌜ r ≡ lowest (batchMutation sites (now (birth .entry)) (record { site = now (site .entry); node = now (node .entry); derived = now (derived .entry) })) (length (now (site .entry))) ⌝ }
+    ensures { λ r. ⌜ r ≡ lowest (batchMutation sites (now (birth .entry)) (mutationTable (now (site .entry)) (now (node .entry)) (now (derived .entry)))) (length (now (site .entry))) ⌝ }
 {
     let mut i = 0;
     while i < site.len() {

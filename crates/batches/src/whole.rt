@@ -1,8 +1,9 @@
 // The rules 20 to 26 in their order.
 ghost use mathlib.Core.Path.{_≡_};
 ghost use mathlib.Core.List.{[]};
+ghost use Rattle.meaning.specs.Rows.{nodeTable, edgeTable, mutationTable};
 ghost use Rattle.meaning.specs.Answer.{done, limits, checkedOf};
-ghost use Rattle.meaning.specs.Join.{batchRules};
+ghost use Rattle.meaning.specs.Join.{batchTables, batchRules};
 ghost use Rattle.rules.specs.Lengths.{refuseTable};
 ghost use Rattle.batches.specs.Lengths.{batchRagged, batchLarge};
 ghost use Rattle.batches.specs.Asked.{readBase, BatchAsked};
@@ -67,8 +68,21 @@ pub fn rules_checked(
     node: &[u32],
     derived: &[u8],
 ) -> Checked
-    requires { ⌜ BatchAsked (readBase (now basetime) (now basebirth) (record { left = now baseleft; right = now baseright; parent = now baseparent; child = now basechild }) (now position)) (record { nodes = record { time = now time; birth = now birth }; edges = record { left = now left; right = now right; parent = now parent; child = now child }; muts = record { site = now site; node = now node; derived = now derived } }) ⌝ }
-    ensures { λ r. ⌜ checkedOf r ≡ batchRules len (readBase (now (basetime .entry)) (now (basebirth .entry)) (record { left = now (baseleft .entry); right = now (baseright .entry); parent = now (baseparent .entry); child = now (basechild .entry) }) (now (position .entry))) (record { nodes = record { time = now (time .entry); birth = now (birth .entry) }; edges = record { left = now (left .entry); right = now (right .entry); parent = now (parent .entry); child = now (child .entry) }; muts = record { site = now (site .entry); node = now (node .entry); derived = now (derived .entry) } }) done ⌝ }
+    requires { ⌜
+        BatchAsked (readBase (now basetime) (now basebirth)
+        (edgeTable (now baseleft) (now baseright) (now baseparent) (now basechild)) (now position))
+        (batchTables
+        (nodeTable (now time) (now birth))
+        (edgeTable (now left) (now right) (now parent) (now child))
+        (mutationTable (now site) (now node) (now derived))) ⌝ }
+    ensures { λ r. ⌜
+        checkedOf r
+        ≡ batchRules len (readBase (now (basetime .entry)) (now (basebirth .entry))
+        (edgeTable (now (baseleft .entry)) (now (baseright .entry)) (now (baseparent .entry)) (now (basechild .entry))) (now (position .entry)))
+        (batchTables
+        (nodeTable (now (time .entry)) (now (birth .entry)))
+        (edgeTable (now (left .entry)) (now (right .entry)) (now (parent .entry)) (now (child .entry)))
+        (mutationTable (now (site .entry)) (now (node .entry)) (now (derived .entry)))) done ⌝ }
 {
     let b = crate::births::first_batch_birth(basebirth, birth);
     if b < birth.len() {

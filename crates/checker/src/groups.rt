@@ -2,6 +2,7 @@
 ghost use mathlib.Core.Path.{_≡_};
 ghost use Prim.Native.Nat.{_≤_};
 ghost use lib.ListN.{length};
+ghost use Rattle.meaning.specs.Rows.{nodeTable, edgeTable, siteTable, mutationTable, tables};
 ghost use Rattle.meaning.specs.Answer.{done, limits, checkedOf};
 ghost use Rattle.meaning.specs.Check.{treeRules, siteRules, sampleRules};
 ghost use Rattle.rules.specs.Asked.{EvenEdges};
@@ -59,8 +60,12 @@ pub fn tree_checked(
     parent: &[u32],
     child: &[u32],
 ) -> Checked
-    requires { ⌜ (length (now birth) ≡ length (now time)) × EvenEdges (record { left = now left; right = now right; parent = now parent; child = now child }) ⌝ }
-    ensures { λ r. ⌜ checkedOf r ≡ treeRules len (record { time = now (time .entry); birth = now (birth .entry) }) (record { left = now (left .entry); right = now (right .entry); parent = now (parent .entry); child = now (child .entry) }) done ⌝ }
+    requires { ⌜ (length (now birth) ≡ length (now time)) × EvenEdges (edgeTable (now left) (now right) (now parent) (now child)) ⌝ }
+    ensures { λ r. ⌜
+        checkedOf r
+        ≡ treeRules len
+        (nodeTable (now (time .entry)) (now (birth .entry)))
+        (edgeTable (now (left .entry)) (now (right .entry)) (now (parent .entry)) (now (child .entry))) done ⌝ }
 {
     let b = rules::columns::first_repeated(birth);
     if b < birth.len() {
@@ -96,8 +101,28 @@ pub fn sites_checked(
     node: &[u32],
     derived: &[u8],
 ) -> Checked
-    requires { ⌜ Shaped (record { nodes = record { time = now time; birth = now birth }; edges = record { left = now left; right = now right; parent = now parent; child = now child }; sites = record { position = now position; ancestral = now ancestral }; muts = record { site = now site; node = now node; derived = now derived } }) × Sized limits (record { nodes = record { time = now time; birth = now birth }; edges = record { left = now left; right = now right; parent = now parent; child = now child }; sites = record { position = now position; ancestral = now ancestral }; muts = record { site = now site; node = now node; derived = now derived } }) × TreeSound len (record { time = now time; birth = now birth }) (record { left = now left; right = now right; parent = now parent; child = now child }) ⌝ }
-    ensures { λ r. ⌜ checkedOf r ≡ siteRules len (record { nodes = record { time = now (time .entry); birth = now (birth .entry) }; edges = record { left = now (left .entry); right = now (right .entry); parent = now (parent .entry); child = now (child .entry) }; sites = record { position = now (position .entry); ancestral = now (ancestral .entry) }; muts = record { site = now (site .entry); node = now (node .entry); derived = now (derived .entry) } }) done ⌝ }
+    requires { ⌜
+        Shaped
+        (tables
+        (nodeTable (now time) (now birth))
+        (edgeTable (now left) (now right) (now parent) (now child))
+        (siteTable (now position) (now ancestral))
+        (mutationTable (now site) (now node) (now derived))) × Sized limits
+        (tables
+        (nodeTable (now time) (now birth))
+        (edgeTable (now left) (now right) (now parent) (now child))
+        (siteTable (now position) (now ancestral))
+        (mutationTable (now site) (now node) (now derived))) × TreeSound len
+        (nodeTable (now time) (now birth))
+        (edgeTable (now left) (now right) (now parent) (now child)) ⌝ }
+    ensures { λ r. ⌜
+        checkedOf r
+        ≡ siteRules len
+        (tables
+        (nodeTable (now (time .entry)) (now (birth .entry)))
+        (edgeTable (now (left .entry)) (now (right .entry)) (now (parent .entry)) (now (child .entry)))
+        (siteTable (now (position .entry)) (now (ancestral .entry)))
+        (mutationTable (now (site .entry)) (now (node .entry)) (now (derived .entry)))) done ⌝ }
 {
     let p = rules::columns::first_broken_site(len, position);
     if p < position.len() {

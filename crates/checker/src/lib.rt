@@ -2,6 +2,7 @@
 ghost use mathlib.Core.Path.{_≡_};
 ghost use Prim.Native.Nat.{_≤_};
 ghost use lib.ListN.{length};
+ghost use Rattle.meaning.specs.Rows.{nodeTable, edgeTable, siteTable, mutationTable, tables};
 ghost use Rattle.meaning.specs.Answer.{done, limits, checkedOf};
 ghost use Rattle.meaning.specs.Check.{rules, checkThen, check};
 ghost use Rattle.checker.specs.Found.{Shaped, Sized};
@@ -27,8 +28,26 @@ fn rules_checked(
     node: &[u32],
     derived: &[u8],
 ) -> Checked
-    requires { ⌜ Shaped (record { nodes = record { time = now time; birth = now birth }; edges = record { left = now left; right = now right; parent = now parent; child = now child }; sites = record { position = now position; ancestral = now ancestral }; muts = record { site = now site; node = now node; derived = now derived } }) × Sized limits (record { nodes = record { time = now time; birth = now birth }; edges = record { left = now left; right = now right; parent = now parent; child = now child }; sites = record { position = now position; ancestral = now ancestral }; muts = record { site = now site; node = now node; derived = now derived } }) ⌝ }
-    ensures { λ r. ⌜ checkedOf r ≡ rules len (record { nodes = record { time = now (time .entry); birth = now (birth .entry) }; edges = record { left = now (left .entry); right = now (right .entry); parent = now (parent .entry); child = now (child .entry) }; sites = record { position = now (position .entry); ancestral = now (ancestral .entry) }; muts = record { site = now (site .entry); node = now (node .entry); derived = now (derived .entry) } }) done ⌝ }
+    requires { ⌜
+        Shaped
+        (tables
+        (nodeTable (now time) (now birth))
+        (edgeTable (now left) (now right) (now parent) (now child))
+        (siteTable (now position) (now ancestral))
+        (mutationTable (now site) (now node) (now derived))) × Sized limits
+        (tables
+        (nodeTable (now time) (now birth))
+        (edgeTable (now left) (now right) (now parent) (now child))
+        (siteTable (now position) (now ancestral))
+        (mutationTable (now site) (now node) (now derived))) ⌝ }
+    ensures { λ r. ⌜
+        checkedOf r
+        ≡ rules len
+        (tables
+        (nodeTable (now (time .entry)) (now (birth .entry)))
+        (edgeTable (now (left .entry)) (now (right .entry)) (now (parent .entry)) (now (child .entry)))
+        (siteTable (now (position .entry)) (now (ancestral .entry)))
+        (mutationTable (now (site .entry)) (now (node .entry)) (now (derived .entry)))) done ⌝ }
 {
     if rules::lengths::length_broken(len) {
         return Checked::Refused(Refusal::Length);
@@ -68,7 +87,14 @@ pub fn check_tables(
     node: &[u32],
     derived: &[u8],
 ) -> Checked
-    ensures { λ r. ⌜ checkedOf r ≡ checkThen limits len (record { nodes = record { time = now (time .entry); birth = now (birth .entry) }; edges = record { left = now (left .entry); right = now (right .entry); parent = now (parent .entry); child = now (child .entry) }; sites = record { position = now (position .entry); ancestral = now (ancestral .entry) }; muts = record { site = now (site .entry); node = now (node .entry); derived = now (derived .entry) } }) done ⌝ }
+    ensures { λ r. ⌜
+        checkedOf r
+        ≡ checkThen limits len
+        (tables
+        (nodeTable (now (time .entry)) (now (birth .entry)))
+        (edgeTable (now (left .entry)) (now (right .entry)) (now (parent .entry)) (now (child .entry)))
+        (siteTable (now (position .entry)) (now (ancestral .entry)))
+        (mutationTable (now (site .entry)) (now (node .entry)) (now (derived .entry)))) done ⌝ }
 {
     let s = groups::lengths_checked(
         time.len(),
@@ -118,7 +144,14 @@ pub fn check(
     derived: &[u8],
     samples: &[u32],
 ) -> Checked
-    ensures { λ r. ⌜ checkedOf r ≡ check limits len (record { nodes = record { time = now (time .entry); birth = now (birth .entry) }; edges = record { left = now (left .entry); right = now (right .entry); parent = now (parent .entry); child = now (child .entry) }; sites = record { position = now (position .entry); ancestral = now (ancestral .entry) }; muts = record { site = now (site .entry); node = now (node .entry); derived = now (derived .entry) } }) (now (samples .entry)) ⌝ }
+    ensures { λ r. ⌜
+        checkedOf r
+        ≡ check limits len
+        (tables
+        (nodeTable (now (time .entry)) (now (birth .entry)))
+        (edgeTable (now (left .entry)) (now (right .entry)) (now (parent .entry)) (now (child .entry)))
+        (siteTable (now (position .entry)) (now (ancestral .entry)))
+        (mutationTable (now (site .entry)) (now (node .entry)) (now (derived .entry)))) (now (samples .entry)) ⌝ }
 {
     let s = groups::lengths_checked(
         time.len(),

@@ -1,6 +1,7 @@
 // Cleaning: the tables are checked, the tree is swept along the chromosome, the rows kept and the edges are put in order,
 // and all is written once it is known to fit.
 ghost use mathlib.Core.Path.{_≡_};
+ghost use Rattle.meaning.specs.Rows.{nodeTable, edgeTable, siteTable, mutationTable, tables};
 ghost use Rattle.meaning.specs.Forest.{stands};
 ghost use Rattle.meaning.specs.Answer.{limits};
 ghost use Rattle.meaning.specs.Clean.{outcomeOf, cleaning};
@@ -42,7 +43,24 @@ pub fn clean_within(
     out_map: &mut [u32],
     cells: usize,
 ) -> Tabled
-    ensures { λ r. ⌜ outcomeOf r (record { nodes = record { time = now («out_time» .exit); birth = now («out_birth» .exit) }; edges = record { left = now («out_left» .exit); right = now («out_right» .exit); parent = now («out_parent» .exit); child = now («out_child» .exit) }; sites = record { position = now («out_position» .exit); ancestral = now («out_ancestral» .exit) }; muts = record { site = now («out_site» .exit); node = now («out_node» .exit); derived = now («out_derived» .exit) } }) (now («out_map» .exit)) ≡ cleaning stands limits len (record { nodes = record { time = now (time .entry); birth = now (birth .entry) }; edges = record { left = now (left .entry); right = now (right .entry); parent = now (parent .entry); child = now (child .entry) }; sites = record { position = now (position .entry); ancestral = now (ancestral .entry) }; muts = record { site = now (site .entry); node = now (node .entry); derived = now (derived .entry) } }) (now (samples .entry)) (record { nodes = record { time = now («out_time» .entry); birth = now («out_birth» .entry) }; edges = record { left = now («out_left» .entry); right = now («out_right» .entry); parent = now («out_parent» .entry); child = now («out_child» .entry) }; sites = record { position = now («out_position» .entry); ancestral = now («out_ancestral» .entry) }; muts = record { site = now («out_site» .entry); node = now («out_node» .entry); derived = now («out_derived» .entry) } }) (now («out_map» .entry)) cells ⌝ }
+    ensures { λ r. ⌜
+        outcomeOf r
+        (tables
+        (nodeTable (now («out_time» .exit)) (now («out_birth» .exit)))
+        (edgeTable (now («out_left» .exit)) (now («out_right» .exit)) (now («out_parent» .exit)) (now («out_child» .exit)))
+        (siteTable (now («out_position» .exit)) (now («out_ancestral» .exit)))
+        (mutationTable (now («out_site» .exit)) (now («out_node» .exit)) (now («out_derived» .exit)))) (now («out_map» .exit))
+        ≡ cleaning stands limits len
+        (tables
+        (nodeTable (now (time .entry)) (now (birth .entry)))
+        (edgeTable (now (left .entry)) (now (right .entry)) (now (parent .entry)) (now (child .entry)))
+        (siteTable (now (position .entry)) (now (ancestral .entry)))
+        (mutationTable (now (site .entry)) (now (node .entry)) (now (derived .entry)))) (now (samples .entry))
+        (tables
+        (nodeTable (now («out_time» .entry)) (now («out_birth» .entry)))
+        (edgeTable (now («out_left» .entry)) (now («out_right» .entry)) (now («out_parent» .entry)) (now («out_child» .entry)))
+        (siteTable (now («out_position» .entry)) (now («out_ancestral» .entry)))
+        (mutationTable (now («out_site» .entry)) (now («out_node» .entry)) (now («out_derived» .entry)))) (now («out_map» .entry)) cells ⌝ }
 {
     match checker::check(
         len,
@@ -119,7 +137,24 @@ pub fn clean(
     out_derived: &mut [u8],
     out_map: &mut [u32],
 ) -> Tabled
-    ensures { λ r. ⌜ outcomeOf r (record { nodes = record { time = now («out_time» .exit); birth = now («out_birth» .exit) }; edges = record { left = now («out_left» .exit); right = now («out_right» .exit); parent = now («out_parent» .exit); child = now («out_child» .exit) }; sites = record { position = now («out_position» .exit); ancestral = now («out_ancestral» .exit) }; muts = record { site = now («out_site» .exit); node = now («out_node» .exit); derived = now («out_derived» .exit) } }) (now («out_map» .exit)) ≡ cleaning stands limits len (record { nodes = record { time = now (time .entry); birth = now (birth .entry) }; edges = record { left = now (left .entry); right = now (right .entry); parent = now (parent .entry); child = now (child .entry) }; sites = record { position = now (position .entry); ancestral = now (ancestral .entry) }; muts = record { site = now (site .entry); node = now (node .entry); derived = now (derived .entry) } }) (now (samples .entry)) (record { nodes = record { time = now («out_time» .entry); birth = now («out_birth» .entry) }; edges = record { left = now («out_left» .entry); right = now («out_right» .entry); parent = now («out_parent» .entry); child = now («out_child» .entry) }; sites = record { position = now («out_position» .entry); ancestral = now («out_ancestral» .entry) }; muts = record { site = now («out_site» .entry); node = now («out_node» .entry); derived = now («out_derived» .entry) } }) (now («out_map» .entry)) 4 ⌝ }
+    ensures { λ r. ⌜
+        outcomeOf r
+        (tables
+        (nodeTable (now («out_time» .exit)) (now («out_birth» .exit)))
+        (edgeTable (now («out_left» .exit)) (now («out_right» .exit)) (now («out_parent» .exit)) (now («out_child» .exit)))
+        (siteTable (now («out_position» .exit)) (now («out_ancestral» .exit)))
+        (mutationTable (now («out_site» .exit)) (now («out_node» .exit)) (now («out_derived» .exit)))) (now («out_map» .exit))
+        ≡ cleaning stands limits len
+        (tables
+        (nodeTable (now (time .entry)) (now (birth .entry)))
+        (edgeTable (now (left .entry)) (now (right .entry)) (now (parent .entry)) (now (child .entry)))
+        (siteTable (now (position .entry)) (now (ancestral .entry)))
+        (mutationTable (now (site .entry)) (now (node .entry)) (now (derived .entry)))) (now (samples .entry))
+        (tables
+        (nodeTable (now («out_time» .entry)) (now («out_birth» .entry)))
+        (edgeTable (now («out_left» .entry)) (now («out_right» .entry)) (now («out_parent» .entry)) (now («out_child» .entry)))
+        (siteTable (now («out_position» .entry)) (now («out_ancestral» .entry)))
+        (mutationTable (now («out_site» .entry)) (now («out_node» .entry)) (now («out_derived» .entry)))) (now («out_map» .entry)) 4 ⌝ }
 {
     clean_within(
         len,

@@ -4,6 +4,7 @@ ghost use mathlib.Core.List.{map};
 ghost use Prim.Native.Nat.{ℕ, _+_, _<_, _≤_};
 ghost use lib.ListN.{length, take};
 ghost use Rattle.meaning.specs.Words.{at, rows};
+ghost use Rattle.meaning.specs.Rows.{nodeTable};
 ghost use Rattle.meaning.specs.Answer.{limits};
 ghost use Rattle.accepted.specs.Checked.{Apart};
 ghost use Rattle.order.specs.Order.{Columns, Inside, SortedFrom, byKeys};
@@ -53,7 +54,9 @@ pub fn finish_edges(
     order: &mut [u32],
 )
     requires { ⌜ (k ≤ limits .edges → (k ≤ length (now left)) × (k ≤ length (now parent)) × (k ≤ length (now child)) × (k ≤ length (now order)) × (length (now birth) ≡ length (now time)) × Inside (length (now time)) (take k (now parent)) × Inside (length (now time)) (take k (now child))) ⌝ }
-    ensures { λ _. ⌜ (k ≤ limits .edges → EdgesFinished (record { time = now (time .entry); birth = now (birth .entry) }) (now (places .entry)) (now (left .entry)) (now (parent .entry)) (now (child .entry)) k (now (order .exit)) (now (parent .exit)) (now (child .exit))) ⌝ }
+    ensures { λ _. ⌜
+        (k ≤ limits .edges → EdgesFinished
+        (nodeTable (now (time .entry)) (now (birth .entry))) (now (places .entry)) (now (left .entry)) (now (parent .entry)) (now (child .entry)) k (now (order .exit)) (now (parent .exit)) (now (child .exit))) ⌝ }
 {
     if EdgeTable::MOST < k {
         return;
@@ -83,7 +86,7 @@ pub fn keep_rows(
     places: &mut [u32],
 ) -> usize
     requires { ⌜ (length (now time) ≤ length (now sample)) × (length (now time) ≤ length (now stood)) × (length (now birth) ≡ length (now time)) × (ns + length (now time) ≤ length (now kept)) × (length (now kept) ≤ 4294967295) × (length (now time) ≤ length (now places)) × Apart (now birth) × Inside (length (now time)) (take ns (now kept)) ⌝ }
-    ensures { λ r. ⌜ KeptRows (record { time = now (time .entry); birth = now (birth .entry) }) (now (sample .entry)) (now (stood .entry)) ns (now (kept .entry)) r (now (kept .exit)) (now (places .exit)) ⌝ }
+    ensures { λ r. ⌜ KeptRows (nodeTable (now (time .entry)) (now (birth .entry))) (now (sample .entry)) (now (stood .entry)) ns (now (kept .entry)) r (now (kept .exit)) (now (places .exit)) ⌝ }
 {
     let n = time.len();
     let no = keeping::others(&stood[..n], &sample[..n], time, birth, &mut kept[ns..]);

@@ -5,6 +5,7 @@ ghost use mathlib.Core.Path.{_≡_};
 ghost use mathlib.Core.List.{List};
 ghost use Prim.Native.Nat.{ℕ, _≤_};
 ghost use lib.ListN.{length};
+ghost use Rattle.meaning.specs.Rows.{nodeTable, edgeTable, siteTable, mutationTable, tables};
 ghost use Rattle.meaning.specs.Forest.{stands};
 ghost use Rattle.meaning.specs.Answer.{limits};
 ghost use Rattle.meaning.specs.Clean.{outcomeOf, cleaned, nodeMap};
@@ -53,8 +54,40 @@ fn work(
     lows: &mut [u32],
     moved: &mut [u32],
 ) -> Sizes
-    requires { ⌜ Passed len (record { time = now time; birth = now birth }) (record { left = now left; right = now right; parent = now parent; child = now child }) (now position) (now site) (now node) (now samples) × ((length (now kept) ≡ 1280) × (length (now fl) ≡ limits .edges) × (length (now fr) ≡ limits .edges) × (length (now fp) ≡ limits .edges) × (length (now fc) ≡ limits .edges) × (length (now order) ≡ limits .edges) × (length (now places) ≡ limits .nodes) × (length (now lows) ≡ limits .mutations) × (length (now moved) ≡ limits .mutations)) ⌝ }
-    ensures { λ r. ⌜ ((A D : List ℕ) → Ground limits len (record { nodes = record { time = now (time .entry); birth = now (birth .entry) }; edges = record { left = now (left .entry); right = now (right .entry); parent = now (parent .entry); child = now (child .entry) }; sites = record { position = now (position .entry); ancestral = A }; muts = record { site = now (site .entry); node = now (node .entry); derived = D } }) (now (samples .entry)) → Holds (record { nodes = record { time = now (time .entry); birth = now (birth .entry) }; edges = record { left = now (left .entry); right = now (right .entry); parent = now (parent .entry); child = now (child .entry) }; sites = record { position = now (position .entry); ancestral = A }; muts = record { site = now (site .entry); node = now (node .entry); derived = D } }) (record { kept = now (kept .exit); left = now (fl .exit); right = now (fr .exit); parent = now (fp .exit); child = now (fc .exit); order = now (order .exit); places = now (places .exit); lows = now (lows .exit); moved = now (moved .exit); nodes = r .nodes; edges = r .edges; mutations = r .mutations }) (cleaned stands len (record { nodes = record { time = now (time .entry); birth = now (birth .entry) }; edges = record { left = now (left .entry); right = now (right .entry); parent = now (parent .entry); child = now (child .entry) }; sites = record { position = now (position .entry); ancestral = A }; muts = record { site = now (site .entry); node = now (node .entry); derived = D } }) (now (samples .entry))) (nodeMap stands len (record { nodes = record { time = now (time .entry); birth = now (birth .entry) }; edges = record { left = now (left .entry); right = now (right .entry); parent = now (parent .entry); child = now (child .entry) }; sites = record { position = now (position .entry); ancestral = A }; muts = record { site = now (site .entry); node = now (node .entry); derived = D } }) (now (samples .entry)))) ⌝ }
+    requires { ⌜
+        Passed len
+        (nodeTable (now time) (now birth))
+        (edgeTable (now left) (now right) (now parent) (now child)) (now position) (now site) (now node) (now samples) × ((length (now kept) ≡ 1280) × (length (now fl) ≡ limits .edges) × (length (now fr) ≡ limits .edges) × (length (now fp) ≡ limits .edges) × (length (now fc) ≡ limits .edges) × (length (now order) ≡ limits .edges) × (length (now places) ≡ limits .nodes) × (length (now lows) ≡ limits .mutations) × (length (now moved) ≡ limits .mutations)) ⌝ }
+    ensures { λ r. ⌜
+        ((A D : List ℕ) → Ground limits len (record {
+          nodes =
+              (nodeTable (now (time .entry)) (now (birth .entry)));
+          edges =
+              (edgeTable (now (left .entry)) (now (right .entry)) (now (parent .entry)) (now (child .entry)));
+          sites = record { position = now (position .entry); ancestral = A };
+          muts = record { site = now (site .entry); node = now (node .entry); derived = D };
+        }) (now (samples .entry)) → Holds (record {
+          nodes =
+              (nodeTable (now (time .entry)) (now (birth .entry)));
+          edges =
+              (edgeTable (now (left .entry)) (now (right .entry)) (now (parent .entry)) (now (child .entry)));
+          sites = record { position = now (position .entry); ancestral = A };
+          muts = record { site = now (site .entry); node = now (node .entry); derived = D };
+        }) (record { kept = now (kept .exit); left = now (fl .exit); right = now (fr .exit); parent = now (fp .exit); child = now (fc .exit); order = now (order .exit); places = now (places .exit); lows = now (lows .exit); moved = now (moved .exit); nodes = r .nodes; edges = r .edges; mutations = r .mutations }) (cleaned stands len (record {
+          nodes =
+              (nodeTable (now (time .entry)) (now (birth .entry)));
+          edges =
+              (edgeTable (now (left .entry)) (now (right .entry)) (now (parent .entry)) (now (child .entry)));
+          sites = record { position = now (position .entry); ancestral = A };
+          muts = record { site = now (site .entry); node = now (node .entry); derived = D };
+        }) (now (samples .entry))) (nodeMap stands len (record {
+          nodes =
+              (nodeTable (now (time .entry)) (now (birth .entry)));
+          edges =
+              (edgeTable (now (left .entry)) (now (right .entry)) (now (parent .entry)) (now (child .entry)));
+          sites = record { position = now (position .entry); ancestral = A };
+          muts = record { site = now (site .entry); node = now (node .entry); derived = D };
+        }) (now (samples .entry)))) ⌝ }
 {
     let mut sample = [0u8; NodeTable::MOST];
     let mut stood = [0u8; NodeTable::MOST];
@@ -118,8 +151,31 @@ pub fn clean_sound(
     out_map: &mut [u32],
     cells: usize,
 ) -> Tabled
-    requires { ⌜ Ground limits len (record { nodes = record { time = now time; birth = now birth }; edges = record { left = now left; right = now right; parent = now parent; child = now child }; sites = record { position = now position; ancestral = now ancestral }; muts = record { site = now site; node = now node; derived = now derived } }) (now samples) ⌝ }
-    ensures { λ r. ⌜ outcomeOf r (record { nodes = record { time = now («out_time» .exit); birth = now («out_birth» .exit) }; edges = record { left = now («out_left» .exit); right = now («out_right» .exit); parent = now («out_parent» .exit); child = now («out_child» .exit) }; sites = record { position = now («out_position» .exit); ancestral = now («out_ancestral» .exit) }; muts = record { site = now («out_site» .exit); node = now («out_node» .exit); derived = now («out_derived» .exit) } }) (now («out_map» .exit)) ≡ afterCheck len (record { nodes = record { time = now (time .entry); birth = now (birth .entry) }; edges = record { left = now (left .entry); right = now (right .entry); parent = now (parent .entry); child = now (child .entry) }; sites = record { position = now (position .entry); ancestral = now (ancestral .entry) }; muts = record { site = now (site .entry); node = now (node .entry); derived = now (derived .entry) } }) (now (samples .entry)) (record { nodes = record { time = now («out_time» .entry); birth = now («out_birth» .entry) }; edges = record { left = now («out_left» .entry); right = now («out_right» .entry); parent = now («out_parent» .entry); child = now («out_child» .entry) }; sites = record { position = now («out_position» .entry); ancestral = now («out_ancestral» .entry) }; muts = record { site = now («out_site» .entry); node = now («out_node» .entry); derived = now («out_derived» .entry) } }) (now («out_map» .entry)) cells ⌝ }
+    requires { ⌜
+        Ground limits len
+        (tables
+        (nodeTable (now time) (now birth))
+        (edgeTable (now left) (now right) (now parent) (now child))
+        (siteTable (now position) (now ancestral))
+        (mutationTable (now site) (now node) (now derived))) (now samples) ⌝ }
+    ensures { λ r. ⌜
+        outcomeOf r
+        (tables
+        (nodeTable (now («out_time» .exit)) (now («out_birth» .exit)))
+        (edgeTable (now («out_left» .exit)) (now («out_right» .exit)) (now («out_parent» .exit)) (now («out_child» .exit)))
+        (siteTable (now («out_position» .exit)) (now («out_ancestral» .exit)))
+        (mutationTable (now («out_site» .exit)) (now («out_node» .exit)) (now («out_derived» .exit)))) (now («out_map» .exit))
+        ≡ afterCheck len
+        (tables
+        (nodeTable (now (time .entry)) (now (birth .entry)))
+        (edgeTable (now (left .entry)) (now (right .entry)) (now (parent .entry)) (now (child .entry)))
+        (siteTable (now (position .entry)) (now (ancestral .entry)))
+        (mutationTable (now (site .entry)) (now (node .entry)) (now (derived .entry)))) (now (samples .entry))
+        (tables
+        (nodeTable (now («out_time» .entry)) (now («out_birth» .entry)))
+        (edgeTable (now («out_left» .entry)) (now («out_right» .entry)) (now («out_parent» .entry)) (now («out_child» .entry)))
+        (siteTable (now («out_position» .entry)) (now («out_ancestral» .entry)))
+        (mutationTable (now («out_site» .entry)) (now («out_node» .entry)) (now («out_derived» .entry)))) (now («out_map» .entry)) cells ⌝ }
 {
     let mut kept = [0u32; KEPT];
     let mut fl = [0u32; EdgeTable::MOST];

@@ -3,6 +3,7 @@ ghost use mathlib.Core.Path.{_≡_};
 ghost use mathlib.Core.List.{List};
 ghost use Prim.Native.Nat.{ℕ, _<_, _≤_};
 ghost use lib.ListN.{length, take};
+ghost use Rattle.meaning.specs.Rows.{nodeTable, edgeTable};
 ghost use Rattle.meaning.specs.Answer.{limits};
 ghost use Rattle.byrows.specs.Rows.{sampleRows};
 ghost use Rattle.tree.specs.TreeAt.{Flags};
@@ -98,8 +99,13 @@ pub fn trace(
     stood: &mut [u8],
     lows: &mut [u32],
 ) -> usize
-    requires { ⌜ Passed len (record { time = now time; birth = now birth }) (record { left = now left; right = now right; parent = now parent; child = now child }) (now position) (now site) (now node) (now samples) × Roomy (length (now time)) (length (now samples)) (length (now site)) (now kept) (now sample) (record { left = now fl; right = now fr; parent = now fp; child = now fc; stood = now stood; count = 0 }) (now lows) ⌝ }
-    ensures { λ r. ⌜ Traced len (length (now (birth .entry))) (record { left = now (left .entry); right = now (right .entry); parent = now (parent .entry); child = now (child .entry) }) (now (position .entry)) (now (site .entry)) (now (node .entry)) (sampleRows (now (birth .entry)) (now (samples .entry))) (now (kept .entry)) (now (kept .exit)) (now (sample .exit)) (record { left = now (fl .exit); right = now (fr .exit); parent = now (fp .exit); child = now (fc .exit); stood = take (length (now (birth .entry))) (now (stood .exit)); count = r }) (now (lows .entry)) (now (lows .exit)) ⌝ }
+    requires { ⌜
+        Passed len
+        (nodeTable (now time) (now birth))
+        (edgeTable (now left) (now right) (now parent) (now child)) (now position) (now site) (now node) (now samples) × Roomy (length (now time)) (length (now samples)) (length (now site)) (now kept) (now sample) (record { left = now fl; right = now fr; parent = now fp; child = now fc; stood = now stood; count = 0 }) (now lows) ⌝ }
+    ensures { λ r. ⌜
+        Traced len (length (now (birth .entry)))
+        (edgeTable (now (left .entry)) (now (right .entry)) (now (parent .entry)) (now (child .entry))) (now (position .entry)) (now (site .entry)) (now (node .entry)) (sampleRows (now (birth .entry)) (now (samples .entry))) (now (kept .entry)) (now (kept .exit)) (now (sample .exit)) (record { left = now (fl .exit); right = now (fr .exit); parent = now (fp .exit); child = now (fc .exit); stood = take (length (now (birth .entry))) (now (stood .exit)); count = r }) (now (lows .entry)) (now (lows .exit)) ⌝ }
 {
     let n = time.len();
     let e = left.len();

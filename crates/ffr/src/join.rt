@@ -1,5 +1,7 @@
 // Joining, called from C.
 ghost use mathlib.Core.Path.{_≡_};
+ghost use Rattle.meaning.specs.Rows.{nodeTable, edgeTable, siteTable, mutationTable, tables};
+ghost use Rattle.meaning.specs.Join.{batchTables};
 ghost use Rattle.meaning.specs.Answer.{limits};
 ghost use Rattle.meaning.specs.Called.{JoinCall, joinCall};
 use crate::pack;
@@ -42,7 +44,31 @@ pub extern "C" fn ffr_join(
     out_derived: &mut [u8],
     block: &mut [u32],
 ) -> u64
-    ensures { λ r. ⌜ _≡_ {A = JoinCall} (record { code = r; cells = record { nodes = record { time = now («out_time» .exit); birth = now («out_birth» .exit) }; edges = record { left = now («out_left» .exit); right = now («out_right» .exit); parent = now («out_parent» .exit); child = now («out_child» .exit) }; sites = record { position = now («out_position» .exit); ancestral = now («out_ancestral» .exit) }; muts = record { site = now («out_site» .exit); node = now («out_node» .exit); derived = now («out_derived» .exit) } }; block = now (block .exit) }) (joinCall limits len (record { nodes = record { time = now (basetime .entry); birth = now (basebirth .entry) }; edges = record { left = now (baseleft .entry); right = now (baseright .entry); parent = now (baseparent .entry); child = now (basechild .entry) }; sites = record { position = now (position .entry); ancestral = now (ancestral .entry) }; muts = record { site = now (basesite .entry); node = now (basenode .entry); derived = now (basederived .entry) } }) (record { nodes = record { time = now (time .entry); birth = now (birth .entry) }; edges = record { left = now (left .entry); right = now (right .entry); parent = now (parent .entry); child = now (child .entry) }; muts = record { site = now (site .entry); node = now (node .entry); derived = now (derived .entry) } }) (record { nodes = record { time = now («out_time» .entry); birth = now («out_birth» .entry) }; edges = record { left = now («out_left» .entry); right = now («out_right» .entry); parent = now («out_parent» .entry); child = now («out_child» .entry) }; sites = record { position = now («out_position» .entry); ancestral = now («out_ancestral» .entry) }; muts = record { site = now («out_site» .entry); node = now («out_node» .entry); derived = now («out_derived» .entry) } }) (now (block .entry))) ⌝ }
+    ensures { λ r. ⌜
+        _≡_ {A = JoinCall} (record {
+          code = r;
+          cells =
+              (tables
+              (nodeTable (now («out_time» .exit)) (now («out_birth» .exit)))
+              (edgeTable (now («out_left» .exit)) (now («out_right» .exit)) (now («out_parent» .exit)) (now («out_child» .exit)))
+              (siteTable (now («out_position» .exit)) (now («out_ancestral» .exit)))
+              (mutationTable (now («out_site» .exit)) (now («out_node» .exit)) (now («out_derived» .exit))));
+          block = now (block .exit);
+        }) (joinCall limits len
+        (tables
+        (nodeTable (now (basetime .entry)) (now (basebirth .entry)))
+        (edgeTable (now (baseleft .entry)) (now (baseright .entry)) (now (baseparent .entry)) (now (basechild .entry)))
+        (siteTable (now (position .entry)) (now (ancestral .entry)))
+        (mutationTable (now (basesite .entry)) (now (basenode .entry)) (now (basederived .entry))))
+        (batchTables
+        (nodeTable (now (time .entry)) (now (birth .entry)))
+        (edgeTable (now (left .entry)) (now (right .entry)) (now (parent .entry)) (now (child .entry)))
+        (mutationTable (now (site .entry)) (now (node .entry)) (now (derived .entry))))
+        (tables
+        (nodeTable (now («out_time» .entry)) (now («out_birth» .entry)))
+        (edgeTable (now («out_left» .entry)) (now («out_right» .entry)) (now («out_parent» .entry)) (now («out_child» .entry)))
+        (siteTable (now («out_position» .entry)) (now («out_ancestral» .entry)))
+        (mutationTable (now («out_site» .entry)) (now («out_node» .entry)) (now («out_derived» .entry)))) (now (block .entry))) ⌝ }
 {
     match joiner::join_within(
         len,

@@ -1,9 +1,10 @@
 // 1 to 10 of the base, then 20 to 26 of the batch.
 ghost use mathlib.Core.Path.{_≡_};
 ghost use lib.ListN.{length};
+ghost use Rattle.meaning.specs.Rows.{nodeTable, edgeTable, siteTable, mutationTable, tables};
 ghost use Rattle.meaning.specs.Answer.{done, limits, checkedOf};
 ghost use Rattle.meaning.specs.Check.{checkThen};
-ghost use Rattle.meaning.specs.Join.{batchShapes, batchSizes, batchRules};
+ghost use Rattle.meaning.specs.Join.{batchTables, batchShapes, batchSizes, batchRules};
 ghost use Rattle.rules.specs.Lengths.{refuseTable};
 ghost use Rattle.batches.specs.Lengths.{batchRagged, batchLarge};
 ghost use Rattle.batches.specs.Asked.{readBase};
@@ -32,8 +33,15 @@ fn batch_checked(
     node: &[u32],
     derived: &[u8],
 ) -> Checked
-    requires { ⌜ BaseAsked (record { time = now basetime; birth = now basebirth }) (record { left = now baseleft; right = now baseright; parent = now baseparent; child = now basechild }) ⌝ }
-    ensures { λ r. ⌜ checkedOf r ≡ refuseTable 20 (batchRagged (length (now (time .entry))) (length (now (birth .entry))) (length (now (left .entry))) (length (now (right .entry))) (length (now (parent .entry))) (length (now (child .entry))) (length (now (site .entry))) (length (now (node .entry))) (length (now (derived .entry)))) (refuseTable 21 (batchLarge limits (length (now (basetime .entry))) (length (now (baseleft .entry))) basemutations (length (now (time .entry))) (length (now (left .entry))) (length (now (site .entry)))) (batchRules len (readBase (now (basetime .entry)) (now (basebirth .entry)) (record { left = now (baseleft .entry); right = now (baseright .entry); parent = now (baseparent .entry); child = now (basechild .entry) }) (now (position .entry))) (record { nodes = record { time = now (time .entry); birth = now (birth .entry) }; edges = record { left = now (left .entry); right = now (right .entry); parent = now (parent .entry); child = now (child .entry) }; muts = record { site = now (site .entry); node = now (node .entry); derived = now (derived .entry) } }) done)) ⌝ }
+    requires { ⌜ BaseAsked (nodeTable (now basetime) (now basebirth)) (edgeTable (now baseleft) (now baseright) (now baseparent) (now basechild)) ⌝ }
+    ensures { λ r. ⌜
+        checkedOf r
+        ≡ refuseTable 20 (batchRagged (length (now (time .entry))) (length (now (birth .entry))) (length (now (left .entry))) (length (now (right .entry))) (length (now (parent .entry))) (length (now (child .entry))) (length (now (site .entry))) (length (now (node .entry))) (length (now (derived .entry)))) (refuseTable 21 (batchLarge limits (length (now (basetime .entry))) (length (now (baseleft .entry))) basemutations (length (now (time .entry))) (length (now (left .entry))) (length (now (site .entry)))) (batchRules len (readBase (now (basetime .entry)) (now (basebirth .entry))
+        (edgeTable (now (baseleft .entry)) (now (baseright .entry)) (now (baseparent .entry)) (now (basechild .entry))) (now (position .entry)))
+        (batchTables
+        (nodeTable (now (time .entry)) (now (birth .entry)))
+        (edgeTable (now (left .entry)) (now (right .entry)) (now (parent .entry)) (now (child .entry)))
+        (mutationTable (now (site .entry)) (now (node .entry)) (now (derived .entry)))) done)) ⌝ }
 {
     let s = batches::whole::lengths_checked(
         basetime.len(),
@@ -97,7 +105,36 @@ pub fn check_join(
     node: &[u32],
     derived: &[u8],
 ) -> Checked
-    ensures { λ r. ⌜ checkedOf r ≡ checkThen limits len (record { nodes = record { time = now (basetime .entry); birth = now (basebirth .entry) }; edges = record { left = now (baseleft .entry); right = now (baseright .entry); parent = now (baseparent .entry); child = now (basechild .entry) }; sites = record { position = now (position .entry); ancestral = now (ancestral .entry) }; muts = record { site = now (basesite .entry); node = now (basenode .entry); derived = now (basederived .entry) } }) (batchShapes (record { nodes = record { time = now (time .entry); birth = now (birth .entry) }; edges = record { left = now (left .entry); right = now (right .entry); parent = now (parent .entry); child = now (child .entry) }; muts = record { site = now (site .entry); node = now (node .entry); derived = now (derived .entry) } }) (batchSizes limits (record { nodes = record { time = now (basetime .entry); birth = now (basebirth .entry) }; edges = record { left = now (baseleft .entry); right = now (baseright .entry); parent = now (baseparent .entry); child = now (basechild .entry) }; sites = record { position = now (position .entry); ancestral = now (ancestral .entry) }; muts = record { site = now (basesite .entry); node = now (basenode .entry); derived = now (basederived .entry) } }) (record { nodes = record { time = now (time .entry); birth = now (birth .entry) }; edges = record { left = now (left .entry); right = now (right .entry); parent = now (parent .entry); child = now (child .entry) }; muts = record { site = now (site .entry); node = now (node .entry); derived = now (derived .entry) } }) (batchRules len (record { nodes = record { time = now (basetime .entry); birth = now (basebirth .entry) }; edges = record { left = now (baseleft .entry); right = now (baseright .entry); parent = now (baseparent .entry); child = now (basechild .entry) }; sites = record { position = now (position .entry); ancestral = now (ancestral .entry) }; muts = record { site = now (basesite .entry); node = now (basenode .entry); derived = now (basederived .entry) } }) (record { nodes = record { time = now (time .entry); birth = now (birth .entry) }; edges = record { left = now (left .entry); right = now (right .entry); parent = now (parent .entry); child = now (child .entry) }; muts = record { site = now (site .entry); node = now (node .entry); derived = now (derived .entry) } }) done))) ⌝ }
+    ensures { λ r. ⌜
+        checkedOf r
+        ≡ checkThen limits len
+        (tables
+        (nodeTable (now (basetime .entry)) (now (basebirth .entry)))
+        (edgeTable (now (baseleft .entry)) (now (baseright .entry)) (now (baseparent .entry)) (now (basechild .entry)))
+        (siteTable (now (position .entry)) (now (ancestral .entry)))
+        (mutationTable (now (basesite .entry)) (now (basenode .entry)) (now (basederived .entry)))) (batchShapes
+        (batchTables
+        (nodeTable (now (time .entry)) (now (birth .entry)))
+        (edgeTable (now (left .entry)) (now (right .entry)) (now (parent .entry)) (now (child .entry)))
+        (mutationTable (now (site .entry)) (now (node .entry)) (now (derived .entry)))) (batchSizes limits
+        (tables
+        (nodeTable (now (basetime .entry)) (now (basebirth .entry)))
+        (edgeTable (now (baseleft .entry)) (now (baseright .entry)) (now (baseparent .entry)) (now (basechild .entry)))
+        (siteTable (now (position .entry)) (now (ancestral .entry)))
+        (mutationTable (now (basesite .entry)) (now (basenode .entry)) (now (basederived .entry))))
+        (batchTables
+        (nodeTable (now (time .entry)) (now (birth .entry)))
+        (edgeTable (now (left .entry)) (now (right .entry)) (now (parent .entry)) (now (child .entry)))
+        (mutationTable (now (site .entry)) (now (node .entry)) (now (derived .entry)))) (batchRules len
+        (tables
+        (nodeTable (now (basetime .entry)) (now (basebirth .entry)))
+        (edgeTable (now (baseleft .entry)) (now (baseright .entry)) (now (baseparent .entry)) (now (basechild .entry)))
+        (siteTable (now (position .entry)) (now (ancestral .entry)))
+        (mutationTable (now (basesite .entry)) (now (basenode .entry)) (now (basederived .entry))))
+        (batchTables
+        (nodeTable (now (time .entry)) (now (birth .entry)))
+        (edgeTable (now (left .entry)) (now (right .entry)) (now (parent .entry)) (now (child .entry)))
+        (mutationTable (now (site .entry)) (now (node .entry)) (now (derived .entry)))) done))) ⌝ }
 {
     let t = checker::check_tables(
         len,

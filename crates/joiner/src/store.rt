@@ -3,9 +3,10 @@ ghost use mathlib.Core.Path.{_≡_};
 ghost use mathlib.Core.List.{_++_};
 ghost use Prim.Native.Nat.{_+_, _≤_};
 ghost use lib.ListN.{length};
+ghost use Rattle.meaning.specs.Rows.{nodeTable, edgeTable, siteTable, mutationTable, tables};
 ghost use Rattle.meaning.specs.Answer.{done, limits, put};
 ghost use Rattle.meaning.specs.Lent.{cellsBy};
-ghost use Rattle.meaning.specs.Join.{joinedOf, joined};
+ghost use Rattle.meaning.specs.Join.{batchTables, joinedOf, joined};
 ghost use Rattle.accepted.specs.Rooms.{Fits};
 ghost use Rattle.writing.specs.Room.{roomOf};
 ghost use Rattle.joiner.specs.Joinable.{Joinable};
@@ -132,8 +133,52 @@ fn write_all(
     out_node: &mut [u32],
     out_derived: &mut [u8],
 )
-    requires { ⌜ Joinable len (record { nodes = record { time = now basetime; birth = now basebirth }; edges = record { left = now baseleft; right = now baseright; parent = now baseparent; child = now basechild }; sites = record { position = now position; ancestral = now ancestral }; muts = record { site = now basesite; node = now basenode; derived = now basederived } }) (record { nodes = record { time = now time; birth = now birth }; edges = record { left = now left; right = now right; parent = now parent; child = now child }; muts = record { site = now site; node = now node; derived = now derived } }) × Fits limits (joined len (record { nodes = record { time = now basetime; birth = now basebirth }; edges = record { left = now baseleft; right = now baseright; parent = now baseparent; child = now basechild }; sites = record { position = now position; ancestral = now ancestral }; muts = record { site = now basesite; node = now basenode; derived = now basederived } }) (record { nodes = record { time = now time; birth = now birth }; edges = record { left = now left; right = now right; parent = now parent; child = now child }; muts = record { site = now site; node = now node; derived = now derived } })) (record { nodes = record { time = now «out_time»; birth = now «out_birth» }; edges = record { left = now «out_left»; right = now «out_right»; parent = now «out_parent»; child = now «out_child» }; sites = record { position = now «out_position»; ancestral = now «out_ancestral» }; muts = record { site = now «out_site»; node = now «out_node»; derived = now «out_derived» } }) ⌝ }
-    ensures { λ _. ⌜ (record { nodes = record { time = now («out_time» .exit); birth = now («out_birth» .exit) }; edges = record { left = now («out_left» .exit); right = now («out_right» .exit); parent = now («out_parent» .exit); child = now («out_child» .exit) }; sites = record { position = now («out_position» .exit); ancestral = now («out_ancestral» .exit) }; muts = record { site = now («out_site» .exit); node = now («out_node» .exit); derived = now («out_derived» .exit) } }) ≡ cellsBy done (joined len (record { nodes = record { time = now (basetime .entry); birth = now (basebirth .entry) }; edges = record { left = now (baseleft .entry); right = now (baseright .entry); parent = now (baseparent .entry); child = now (basechild .entry) }; sites = record { position = now (position .entry); ancestral = now (ancestral .entry) }; muts = record { site = now (basesite .entry); node = now (basenode .entry); derived = now (basederived .entry) } }) (record { nodes = record { time = now (time .entry); birth = now (birth .entry) }; edges = record { left = now (left .entry); right = now (right .entry); parent = now (parent .entry); child = now (child .entry) }; muts = record { site = now (site .entry); node = now (node .entry); derived = now (derived .entry) } })) (record { nodes = record { time = now («out_time» .entry); birth = now («out_birth» .entry) }; edges = record { left = now («out_left» .entry); right = now («out_right» .entry); parent = now («out_parent» .entry); child = now («out_child» .entry) }; sites = record { position = now («out_position» .entry); ancestral = now («out_ancestral» .entry) }; muts = record { site = now («out_site» .entry); node = now («out_node» .entry); derived = now («out_derived» .entry) } }) ⌝ }
+    requires { ⌜
+        Joinable len
+        (tables
+        (nodeTable (now basetime) (now basebirth))
+        (edgeTable (now baseleft) (now baseright) (now baseparent) (now basechild))
+        (siteTable (now position) (now ancestral))
+        (mutationTable (now basesite) (now basenode) (now basederived)))
+        (batchTables
+        (nodeTable (now time) (now birth))
+        (edgeTable (now left) (now right) (now parent) (now child))
+        (mutationTable (now site) (now node) (now derived))) × Fits limits (joined len
+        (tables
+        (nodeTable (now basetime) (now basebirth))
+        (edgeTable (now baseleft) (now baseright) (now baseparent) (now basechild))
+        (siteTable (now position) (now ancestral))
+        (mutationTable (now basesite) (now basenode) (now basederived)))
+        (batchTables
+        (nodeTable (now time) (now birth))
+        (edgeTable (now left) (now right) (now parent) (now child))
+        (mutationTable (now site) (now node) (now derived))))
+        (tables
+        (nodeTable (now «out_time») (now «out_birth»))
+        (edgeTable (now «out_left») (now «out_right») (now «out_parent») (now «out_child»))
+        (siteTable (now «out_position») (now «out_ancestral»))
+        (mutationTable (now «out_site») (now «out_node») (now «out_derived»))) ⌝ }
+    ensures { λ _. ⌜
+        (tables
+        (nodeTable (now («out_time» .exit)) (now («out_birth» .exit)))
+        (edgeTable (now («out_left» .exit)) (now («out_right» .exit)) (now («out_parent» .exit)) (now («out_child» .exit)))
+        (siteTable (now («out_position» .exit)) (now («out_ancestral» .exit)))
+        (mutationTable (now («out_site» .exit)) (now («out_node» .exit)) (now («out_derived» .exit))))
+        ≡ cellsBy done (joined len
+        (tables
+        (nodeTable (now (basetime .entry)) (now (basebirth .entry)))
+        (edgeTable (now (baseleft .entry)) (now (baseright .entry)) (now (baseparent .entry)) (now (basechild .entry)))
+        (siteTable (now (position .entry)) (now (ancestral .entry)))
+        (mutationTable (now (basesite .entry)) (now (basenode .entry)) (now (basederived .entry))))
+        (batchTables
+        (nodeTable (now (time .entry)) (now (birth .entry)))
+        (edgeTable (now (left .entry)) (now (right .entry)) (now (parent .entry)) (now (child .entry)))
+        (mutationTable (now (site .entry)) (now (node .entry)) (now (derived .entry)))))
+        (tables
+        (nodeTable (now («out_time» .entry)) (now («out_birth» .entry)))
+        (edgeTable (now («out_left» .entry)) (now («out_right» .entry)) (now («out_parent» .entry)) (now («out_child» .entry)))
+        (siteTable (now («out_position» .entry)) (now («out_ancestral» .entry)))
+        (mutationTable (now («out_site» .entry)) (now («out_node» .entry)) (now («out_derived» .entry)))) ⌝ }
 {
     write_nodes(basetime, basebirth, time, birth, out_time, out_birth);
     joint::edges::join_edges(
@@ -207,8 +252,39 @@ pub fn store(
     out_derived: &mut [u8],
     cells: usize,
 ) -> Tabled
-    requires { ⌜ Joinable len (record { nodes = record { time = now basetime; birth = now basebirth }; edges = record { left = now baseleft; right = now baseright; parent = now baseparent; child = now basechild }; sites = record { position = now position; ancestral = now ancestral }; muts = record { site = now basesite; node = now basenode; derived = now basederived } }) (record { nodes = record { time = now time; birth = now birth }; edges = record { left = now left; right = now right; parent = now parent; child = now child }; muts = record { site = now site; node = now node; derived = now derived } }) ⌝ }
-    ensures { λ r. ⌜ joinedOf r (record { nodes = record { time = now («out_time» .exit); birth = now («out_birth» .exit) }; edges = record { left = now («out_left» .exit); right = now («out_right» .exit); parent = now («out_parent» .exit); child = now («out_child» .exit) }; sites = record { position = now («out_position» .exit); ancestral = now («out_ancestral» .exit) }; muts = record { site = now («out_site» .exit); node = now («out_node» .exit); derived = now («out_derived» .exit) } }) ≡ afterChecks len (record { nodes = record { time = now (basetime .entry); birth = now (basebirth .entry) }; edges = record { left = now (baseleft .entry); right = now (baseright .entry); parent = now (baseparent .entry); child = now (basechild .entry) }; sites = record { position = now (position .entry); ancestral = now (ancestral .entry) }; muts = record { site = now (basesite .entry); node = now (basenode .entry); derived = now (basederived .entry) } }) (record { nodes = record { time = now (time .entry); birth = now (birth .entry) }; edges = record { left = now (left .entry); right = now (right .entry); parent = now (parent .entry); child = now (child .entry) }; muts = record { site = now (site .entry); node = now (node .entry); derived = now (derived .entry) } }) (record { nodes = record { time = now («out_time» .entry); birth = now («out_birth» .entry) }; edges = record { left = now («out_left» .entry); right = now («out_right» .entry); parent = now («out_parent» .entry); child = now («out_child» .entry) }; sites = record { position = now («out_position» .entry); ancestral = now («out_ancestral» .entry) }; muts = record { site = now («out_site» .entry); node = now («out_node» .entry); derived = now («out_derived» .entry) } }) cells ⌝ }
+    requires { ⌜
+        Joinable len
+        (tables
+        (nodeTable (now basetime) (now basebirth))
+        (edgeTable (now baseleft) (now baseright) (now baseparent) (now basechild))
+        (siteTable (now position) (now ancestral))
+        (mutationTable (now basesite) (now basenode) (now basederived)))
+        (batchTables
+        (nodeTable (now time) (now birth))
+        (edgeTable (now left) (now right) (now parent) (now child))
+        (mutationTable (now site) (now node) (now derived))) ⌝ }
+    ensures { λ r. ⌜
+        joinedOf r
+        (tables
+        (nodeTable (now («out_time» .exit)) (now («out_birth» .exit)))
+        (edgeTable (now («out_left» .exit)) (now («out_right» .exit)) (now («out_parent» .exit)) (now («out_child» .exit)))
+        (siteTable (now («out_position» .exit)) (now («out_ancestral» .exit)))
+        (mutationTable (now («out_site» .exit)) (now («out_node» .exit)) (now («out_derived» .exit))))
+        ≡ afterChecks len
+        (tables
+        (nodeTable (now (basetime .entry)) (now (basebirth .entry)))
+        (edgeTable (now (baseleft .entry)) (now (baseright .entry)) (now (baseparent .entry)) (now (basechild .entry)))
+        (siteTable (now (position .entry)) (now (ancestral .entry)))
+        (mutationTable (now (basesite .entry)) (now (basenode .entry)) (now (basederived .entry))))
+        (batchTables
+        (nodeTable (now (time .entry)) (now (birth .entry)))
+        (edgeTable (now (left .entry)) (now (right .entry)) (now (parent .entry)) (now (child .entry)))
+        (mutationTable (now (site .entry)) (now (node .entry)) (now (derived .entry))))
+        (tables
+        (nodeTable (now («out_time» .entry)) (now («out_birth» .entry)))
+        (edgeTable (now («out_left» .entry)) (now («out_right» .entry)) (now («out_parent» .entry)) (now («out_child» .entry)))
+        (siteTable (now («out_position» .entry)) (now («out_ancestral» .entry)))
+        (mutationTable (now («out_site» .entry)) (now («out_node» .entry)) (now («out_derived» .entry)))) cells ⌝ }
 {
     let nodes = basetime.len() + time.len();
     let edges = baseleft.len() + left.len();

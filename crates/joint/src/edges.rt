@@ -4,6 +4,7 @@ ghost use lib.ListN.{length};
 ghost use Rattle.batches.specs.Joint.{JointPut};
 ghost use Rattle.joint.specs.Sorting.{edgeOrder, edgesIn, Sortable, EdgeRoom};
 ghost use mathlib.Core.List.{[]};
+ghost use Rattle.meaning.specs.Rows.{nodeTable, edgeTable};
 ghost use Rattle.meaning.specs.Join.{joined};
 ghost use Rattle.batches.specs.Asked.{readBase, readBatch};
 ghost use Rattle.joint.specs.Asked.{EdgesAsked};
@@ -20,8 +21,12 @@ fn sort_edges(
     child: &[u32],
     idx: &mut [u32],
 )
-    requires { ⌜ Sortable (record { time = now time; birth = now birth }) (record { left = now left; right = now right; parent = now parent; child = now child }) × (length (now idx) ≡ length (now left)) ⌝ }
-    ensures { λ _. ⌜ now (idx .exit) ≡ edgeOrder (record { time = now (time .entry); birth = now (birth .entry) }) (record { left = now (left .entry); right = now (right .entry); parent = now (parent .entry); child = now (child .entry) }) ⌝ }
+    requires { ⌜ Sortable (nodeTable (now time) (now birth)) (edgeTable (now left) (now right) (now parent) (now child)) × (length (now idx) ≡ length (now left)) ⌝ }
+    ensures { λ _. ⌜
+        now (idx .exit)
+        ≡ edgeOrder
+        (nodeTable (now (time .entry)) (now (birth .entry)))
+        (edgeTable (now (left .entry)) (now (right .entry)) (now (parent .entry)) (now (child .entry))) ⌝ }
 {
     let mut k0 = [0u32; EdgeTable::MOST];
     let mut k1 = [0u32; EdgeTable::MOST];
@@ -48,8 +53,19 @@ fn edges_by(
     outparent: &mut [u32],
     outchild: &mut [u32],
 )
-    requires { ⌜ Sortable (record { time = now time; birth = now birth }) (record { left = now left; right = now right; parent = now parent; child = now child }) × (length (now idx) ≡ length (now left)) × EdgeRoom (length (now left)) (record { left = now outleft; right = now outright; parent = now outparent; child = now outchild }) ⌝ }
-    ensures { λ _. ⌜ JointPut (edgesIn (edgeOrder (record { time = now (time .entry); birth = now (birth .entry) }) (record { left = now (left .entry); right = now (right .entry); parent = now (parent .entry); child = now (child .entry) })) (record { left = now (left .entry); right = now (right .entry); parent = now (parent .entry); child = now (child .entry) })) (record { left = now (outleft .entry); right = now (outright .entry); parent = now (outparent .entry); child = now (outchild .entry) }) (record { left = now (outleft .exit); right = now (outright .exit); parent = now (outparent .exit); child = now (outchild .exit) }) ⌝ }
+    requires { ⌜
+        Sortable
+        (nodeTable (now time) (now birth))
+        (edgeTable (now left) (now right) (now parent) (now child)) × (length (now idx)
+        ≡ length (now left)) × EdgeRoom (length (now left))
+        (edgeTable (now outleft) (now outright) (now outparent) (now outchild)) ⌝ }
+    ensures { λ _. ⌜
+        JointPut (edgesIn (edgeOrder
+        (nodeTable (now (time .entry)) (now (birth .entry)))
+        (edgeTable (now (left .entry)) (now (right .entry)) (now (parent .entry)) (now (child .entry))))
+        (edgeTable (now (left .entry)) (now (right .entry)) (now (parent .entry)) (now (child .entry))))
+        (edgeTable (now (outleft .entry)) (now (outright .entry)) (now (outparent .entry)) (now (outchild .entry)))
+        (edgeTable (now (outleft .exit)) (now (outright .exit)) (now (outparent .exit)) (now (outchild .exit))) ⌝ }
 {
     sort_edges(time, birth, left, right, parent, child, idx);
     batches::columns::gather(left, idx, outleft);
@@ -71,8 +87,18 @@ pub fn write_edges(
     outparent: &mut [u32],
     outchild: &mut [u32],
 )
-    requires { ⌜ Sortable (record { time = now time; birth = now birth }) (record { left = now left; right = now right; parent = now parent; child = now child }) × EdgeRoom (length (now left)) (record { left = now outleft; right = now outright; parent = now outparent; child = now outchild }) ⌝ }
-    ensures { λ _. ⌜ JointPut (edgesIn (edgeOrder (record { time = now (time .entry); birth = now (birth .entry) }) (record { left = now (left .entry); right = now (right .entry); parent = now (parent .entry); child = now (child .entry) })) (record { left = now (left .entry); right = now (right .entry); parent = now (parent .entry); child = now (child .entry) })) (record { left = now (outleft .entry); right = now (outright .entry); parent = now (outparent .entry); child = now (outchild .entry) }) (record { left = now (outleft .exit); right = now (outright .exit); parent = now (outparent .exit); child = now (outchild .exit) }) ⌝ }
+    requires { ⌜
+        Sortable
+        (nodeTable (now time) (now birth))
+        (edgeTable (now left) (now right) (now parent) (now child)) × EdgeRoom (length (now left))
+        (edgeTable (now outleft) (now outright) (now outparent) (now outchild)) ⌝ }
+    ensures { λ _. ⌜
+        JointPut (edgesIn (edgeOrder
+        (nodeTable (now (time .entry)) (now (birth .entry)))
+        (edgeTable (now (left .entry)) (now (right .entry)) (now (parent .entry)) (now (child .entry))))
+        (edgeTable (now (left .entry)) (now (right .entry)) (now (parent .entry)) (now (child .entry))))
+        (edgeTable (now (outleft .entry)) (now (outright .entry)) (now (outparent .entry)) (now (outchild .entry)))
+        (edgeTable (now (outleft .exit)) (now (outright .exit)) (now (outparent .exit)) (now (outchild .exit))) ⌝ }
 {
     let mut idx = [0u32; EdgeTable::MOST];
     let n = left.len();
@@ -111,8 +137,17 @@ pub fn join_edges(
     outparent: &mut [u32],
     outchild: &mut [u32],
 )
-    requires { ⌜ EdgesAsked len (readBase (now basetime) (now basebirth) (record { left = now baseleft; right = now baseright; parent = now baseparent; child = now basechild }) []) (readBatch (now time) (now birth) (record { left = now left; right = now right; parent = now parent; child = now child }) [] []) (record { left = now outleft; right = now outright; parent = now outparent; child = now outchild }) ⌝ }
-    ensures { λ _. ⌜ JointPut (joined len (readBase (now (basetime .entry)) (now (basebirth .entry)) (record { left = now (baseleft .entry); right = now (baseright .entry); parent = now (baseparent .entry); child = now (basechild .entry) }) []) (readBatch (now (time .entry)) (now (birth .entry)) (record { left = now (left .entry); right = now (right .entry); parent = now (parent .entry); child = now (child .entry) }) [] []) .edges) (record { left = now (outleft .entry); right = now (outright .entry); parent = now (outparent .entry); child = now (outchild .entry) }) (record { left = now (outleft .exit); right = now (outright .exit); parent = now (outparent .exit); child = now (outchild .exit) }) ⌝ }
+    requires { ⌜
+        EdgesAsked len (readBase (now basetime) (now basebirth)
+        (edgeTable (now baseleft) (now baseright) (now baseparent) (now basechild)) []) (readBatch (now time) (now birth)
+        (edgeTable (now left) (now right) (now parent) (now child)) [] [])
+        (edgeTable (now outleft) (now outright) (now outparent) (now outchild)) ⌝ }
+    ensures { λ _. ⌜
+        JointPut (joined len (readBase (now (basetime .entry)) (now (basebirth .entry))
+        (edgeTable (now (baseleft .entry)) (now (baseright .entry)) (now (baseparent .entry)) (now (basechild .entry))) []) (readBatch (now (time .entry)) (now (birth .entry))
+        (edgeTable (now (left .entry)) (now (right .entry)) (now (parent .entry)) (now (child .entry))) [] []) .edges)
+        (edgeTable (now (outleft .entry)) (now (outright .entry)) (now (outparent .entry)) (now (outchild .entry)))
+        (edgeTable (now (outleft .exit)) (now (outright .exit)) (now (outparent .exit)) (now (outchild .exit))) ⌝ }
 {
     let mut alltime = [0u32; NodeTable::MOST];
     let mut allbirth = [0u32; NodeTable::MOST];

@@ -5,6 +5,7 @@ mod tables;
 
 ghost use Prim.Native.Nat.{_≤_};
 ghost use lib.ListN.{length};
+ghost use Rattle.meaning.specs.Rows.{nodeTable, edgeTable, siteTable, mutationTable, tables};
 ghost use Rattle.meaning.specs.Printed.{listed, refusedLine, tooLong};
 ghost use Rattle.listing.specs.Written.{Printed, room};
 
@@ -26,7 +27,13 @@ pub fn list(
     out: &mut [u8],
 ) -> usize
     requires { ⌜ room (length (now time)) (length (now left)) (length (now position)) (length (now site)) (length (now map)) ≤ length (now out) ⌝ }
-    ensures { λ r. ⌜ Printed (listed len (record { nodes = record { time = now (time .entry); birth = now (birth .entry) }; edges = record { left = now (left .entry); right = now (right .entry); parent = now (parent .entry); child = now (child .entry) }; sites = record { position = now (position .entry); ancestral = now (ancestral .entry) }; muts = record { site = now (site .entry); node = now (node .entry); derived = now (derived .entry) } }) (now (map .entry))) (now (out .entry)) (now (out .exit)) r ⌝ }
+    ensures { λ r. ⌜
+        Printed (listed len
+        (tables
+        (nodeTable (now (time .entry)) (now (birth .entry)))
+        (edgeTable (now (left .entry)) (now (right .entry)) (now (parent .entry)) (now (child .entry)))
+        (siteTable (now (position .entry)) (now (ancestral .entry)))
+        (mutationTable (now (site .entry)) (now (node .entry)) (now (derived .entry)))) (now (map .entry))) (now (out .entry)) (now (out .exit)) r ⌝ }
 {
     let a = put::one(out, 0, 81, len as usize);
     let b = tables::nodes(out, a, time, birth);

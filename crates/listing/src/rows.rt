@@ -4,6 +4,7 @@ ghost use mathlib.Core.Path.{_≡_};
 ghost use Prim.Native.Nat.{_+_, _<_, _≤_};
 ghost use lib.ListN.{length};
 ghost use Rattle.meaning.specs.Words.{at as cellOf};
+ghost use Rattle.meaning.specs.Rows.{nodeTable, edgeTable, siteTable, mutationTable};
 ghost use Rattle.meaning.specs.Printed.{nodeLine, edgeLine, siteLine, mutationLine, mapLine};
 ghost use Rattle.listing.specs.Written.{Wrote};
 
@@ -26,8 +27,8 @@ fn state(column: &[u8], i: usize) -> usize
 }
 
 pub fn node(out: &mut [u8], at: usize, time: &[u32], birth: &[u32], i: usize) -> usize
-    requires { ⌜ at + length (nodeLine (record { time = now time; birth = now birth }) i) ≤ length (now out) ⌝ }
-    ensures { λ r. ⌜ Wrote at (nodeLine (record { time = now (time .entry); birth = now (birth .entry) }) i) (now (out .entry)) (now (out .exit)) r ⌝ }
+    requires { ⌜ at + length (nodeLine (nodeTable (now time) (now birth)) i) ≤ length (now out) ⌝ }
+    ensures { λ r. ⌜ Wrote at (nodeLine (nodeTable (now (time .entry)) (now (birth .entry))) i) (now (out .entry)) (now (out .exit)) r ⌝ }
 {
     let t = cell(time, i);
     let b = cell(birth, i);
@@ -43,8 +44,8 @@ pub fn edge(
     child: &[u32],
     i: usize,
 ) -> usize
-    requires { ⌜ at + length (edgeLine (record { left = now left; right = now right; parent = now parent; child = now child }) i) ≤ length (now out) ⌝ }
-    ensures { λ r. ⌜ Wrote at (edgeLine (record { left = now (left .entry); right = now (right .entry); parent = now (parent .entry); child = now (child .entry) }) i) (now (out .entry)) (now (out .exit)) r ⌝ }
+    requires { ⌜ at + length (edgeLine (edgeTable (now left) (now right) (now parent) (now child)) i) ≤ length (now out) ⌝ }
+    ensures { λ r. ⌜ Wrote at (edgeLine (edgeTable (now (left .entry)) (now (right .entry)) (now (parent .entry)) (now (child .entry))) i) (now (out .entry)) (now (out .exit)) r ⌝ }
 {
     let a = cell(left, i);
     let b = cell(right, i);
@@ -54,8 +55,8 @@ pub fn edge(
 }
 
 pub fn site(out: &mut [u8], at: usize, position: &[u32], ancestral: &[u8], i: usize) -> usize
-    requires { ⌜ at + length (siteLine (record { position = now position; ancestral = now ancestral }) i) ≤ length (now out) ⌝ }
-    ensures { λ r. ⌜ Wrote at (siteLine (record { position = now (position .entry); ancestral = now (ancestral .entry) }) i) (now (out .entry)) (now (out .exit)) r ⌝ }
+    requires { ⌜ at + length (siteLine (siteTable (now position) (now ancestral)) i) ≤ length (now out) ⌝ }
+    ensures { λ r. ⌜ Wrote at (siteLine (siteTable (now (position .entry)) (now (ancestral .entry))) i) (now (out .entry)) (now (out .exit)) r ⌝ }
 {
     let x = cell(position, i);
     let s = state(ancestral, i);
@@ -70,8 +71,8 @@ pub fn mutation(
     derived: &[u8],
     i: usize,
 ) -> usize
-    requires { ⌜ at + length (mutationLine (record { site = now site; node = now node; derived = now derived }) i) ≤ length (now out) ⌝ }
-    ensures { λ r. ⌜ Wrote at (mutationLine (record { site = now (site .entry); node = now (node .entry); derived = now (derived .entry) }) i) (now (out .entry)) (now (out .exit)) r ⌝ }
+    requires { ⌜ at + length (mutationLine (mutationTable (now site) (now node) (now derived)) i) ≤ length (now out) ⌝ }
+    ensures { λ r. ⌜ Wrote at (mutationLine (mutationTable (now (site .entry)) (now (node .entry)) (now (derived .entry))) i) (now (out .entry)) (now (out .exit)) r ⌝ }
 {
     let j = cell(site, i);
     let u = cell(node, i);

@@ -2,12 +2,13 @@
 use crate::rows;
 ghost use Prim.Native.Nat.{_+_, _<_, _≤_};
 ghost use lib.ListN.{length};
+ghost use Rattle.meaning.specs.Rows.{nodeTable, edgeTable, siteTable, mutationTable};
 ghost use Rattle.meaning.specs.Printed.{lines, nodeLine, edgeLine, siteLine, mutationLine, mapLine};
 ghost use Rattle.listing.specs.Written.{Wrote};
 
 pub fn nodes(out: &mut [u8], start: usize, time: &[u32], birth: &[u32]) -> usize
-    requires { ⌜ start + length (lines (nodeLine (record { time = now time; birth = now birth })) (length (now time))) ≤ length (now out) ⌝ }
-    ensures { λ r. ⌜ Wrote start (lines (nodeLine (record { time = now (time .entry); birth = now (birth .entry) })) (length (now (time .entry)))) (now (out .entry)) (now (out .exit)) r ⌝ }
+    requires { ⌜ start + length (lines (nodeLine (nodeTable (now time) (now birth))) (length (now time))) ≤ length (now out) ⌝ }
+    ensures { λ r. ⌜ Wrote start (lines (nodeLine (nodeTable (now (time .entry)) (now (birth .entry)))) (length (now (time .entry)))) (now (out .entry)) (now (out .exit)) r ⌝ }
 {
     let mut at = start;
     let mut i = 0;
@@ -26,8 +27,10 @@ pub fn edges(
     parent: &[u32],
     child: &[u32],
 ) -> usize
-    requires { ⌜ start + length (lines (edgeLine (record { left = now left; right = now right; parent = now parent; child = now child })) (length (now left))) ≤ length (now out) ⌝ }
-    ensures { λ r. ⌜ Wrote start (lines (edgeLine (record { left = now (left .entry); right = now (right .entry); parent = now (parent .entry); child = now (child .entry) })) (length (now (left .entry)))) (now (out .entry)) (now (out .exit)) r ⌝ }
+    requires { ⌜ start + length (lines (edgeLine (edgeTable (now left) (now right) (now parent) (now child))) (length (now left))) ≤ length (now out) ⌝ }
+    ensures { λ r. ⌜
+        Wrote start (lines (edgeLine
+        (edgeTable (now (left .entry)) (now (right .entry)) (now (parent .entry)) (now (child .entry)))) (length (now (left .entry)))) (now (out .entry)) (now (out .exit)) r ⌝ }
 {
     let mut at = start;
     let mut i = 0;
@@ -39,8 +42,8 @@ pub fn edges(
 }
 
 pub fn sites(out: &mut [u8], start: usize, position: &[u32], ancestral: &[u8]) -> usize
-    requires { ⌜ start + length (lines (siteLine (record { position = now position; ancestral = now ancestral })) (length (now position))) ≤ length (now out) ⌝ }
-    ensures { λ r. ⌜ Wrote start (lines (siteLine (record { position = now (position .entry); ancestral = now (ancestral .entry) })) (length (now (position .entry)))) (now (out .entry)) (now (out .exit)) r ⌝ }
+    requires { ⌜ start + length (lines (siteLine (siteTable (now position) (now ancestral))) (length (now position))) ≤ length (now out) ⌝ }
+    ensures { λ r. ⌜ Wrote start (lines (siteLine (siteTable (now (position .entry)) (now (ancestral .entry)))) (length (now (position .entry)))) (now (out .entry)) (now (out .exit)) r ⌝ }
 {
     let mut at = start;
     let mut i = 0;
@@ -52,8 +55,10 @@ pub fn sites(out: &mut [u8], start: usize, position: &[u32], ancestral: &[u8]) -
 }
 
 pub fn mutations(out: &mut [u8], start: usize, site: &[u32], node: &[u32], derived: &[u8]) -> usize
-    requires { ⌜ start + length (lines (mutationLine (record { site = now site; node = now node; derived = now derived })) (length (now site))) ≤ length (now out) ⌝ }
-    ensures { λ r. ⌜ Wrote start (lines (mutationLine (record { site = now (site .entry); node = now (node .entry); derived = now (derived .entry) })) (length (now (site .entry)))) (now (out .entry)) (now (out .exit)) r ⌝ }
+    requires { ⌜ start + length (lines (mutationLine (mutationTable (now site) (now node) (now derived))) (length (now site))) ≤ length (now out) ⌝ }
+    ensures { λ r. ⌜
+        Wrote start (lines (mutationLine
+        (mutationTable (now (site .entry)) (now (node .entry)) (now (derived .entry)))) (length (now (site .entry)))) (now (out .entry)) (now (out .exit)) r ⌝ }
 {
     let mut at = start;
     let mut i = 0;

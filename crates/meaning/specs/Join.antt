@@ -17,6 +17,9 @@ pub record BatchTables : Type 0 where
   pub edges : EdgeColumns
   pub muts : MutationColumns
 
+abbrev pub batchTables : NodeColumns → EdgeColumns → MutationColumns → BatchTables
+batchTables nodes edges muts = record { nodes = nodes; edges = edges; muts = muts }
+
 -- the batch that the columns mean
 pub record Batch : Type 0 where
   pub nodes : List Node

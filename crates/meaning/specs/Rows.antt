@@ -35,6 +35,25 @@ pub record Tables : Type 0 where
   pub sites : SiteColumns
   pub muts : MutationColumns
 
+-- ---- each table by its columns, and tables 1 to 4 by these, as contracts name them
+
+abbrev pub nodeTable : List ℕ → List ℕ → NodeColumns
+nodeTable time birth = record { time = time; birth = birth }
+
+abbrev pub edgeTable : List ℕ → List ℕ → List ℕ → List ℕ → EdgeColumns
+edgeTable left right parent child = record { left = left; right = right; parent = parent; child = child }
+
+abbrev pub siteTable : List ℕ → List ℕ → SiteColumns
+siteTable position ancestral = record { position = position; ancestral = ancestral }
+
+abbrev pub mutationTable : List ℕ → List ℕ → List ℕ → MutationColumns
+mutationTable site node derived = record { site = site; node = node; derived = derived }
+
+abbrev pub tables : NodeColumns → EdgeColumns → SiteColumns → MutationColumns → Tables
+tables nodes edges sites muts = record { nodes = nodes; edges = edges; sites = sites; muts = muts }
+
+-- ---- rows
+
 -- a node row, copied whole by cleaning and joining
 pub record Node : Type 0 where
   pub time : ℕ

@@ -5,6 +5,7 @@ ghost use mathlib.Core.List.{[], _∷_};
 ghost use Prim.Native.Nat.{_<_};
 ghost use lib.ListN.{length};
 ghost use Rattle.meaning.specs.Words.{lowest, lex};
+ghost use Rattle.meaning.specs.Rows.{nodeTable, edgeTable};
 ghost use Rattle.meaning.specs.Check.{edgeBroken, edgeUnordered, edgeShared, keyOf};
 ghost use Rattle.rules.specs.Asked.{EvenEdges, NamedNodes};
 
@@ -18,8 +19,8 @@ fn edge_broken_at(
     child: &[u32],
     i: usize,
 ) -> bool
-    requires { ⌜ (i < length (now left)) × EvenEdges (record { left = now left; right = now right; parent = now parent; child = now child }) ⌝ }
-    ensures { λ r. ⌜ r ≡ edgeBroken len (now (time .entry)) (record { left = now (left .entry); right = now (right .entry); parent = now (parent .entry); child = now (child .entry) }) i ⌝ }
+    requires { ⌜ (i < length (now left)) × EvenEdges (edgeTable (now left) (now right) (now parent) (now child)) ⌝ }
+    ensures { λ r. ⌜ r ≡ edgeBroken len (now (time .entry)) (edgeTable (now (left .entry)) (now (right .entry)) (now (parent .entry)) (now (child .entry))) i ⌝ }
 {
     let p = parent[i] as usize;
     let c = child[i] as usize;
@@ -47,8 +48,8 @@ pub fn first_broken_edge(
     parent: &[u32],
     child: &[u32],
 ) -> usize
-    requires { ⌜ EvenEdges (record { left = now left; right = now right; parent = now parent; child = now child }) ⌝ }
-    ensures { λ r. ⌜ r ≡ lowest (edgeBroken len (now (time .entry)) (record { left = now (left .entry); right = now (right .entry); parent = now (parent .entry); child = now (child .entry) })) (length (now (left .entry))) ⌝ }
+    requires { ⌜ EvenEdges (edgeTable (now left) (now right) (now parent) (now child)) ⌝ }
+    ensures { λ r. ⌜ r ≡ lowest (edgeBroken len (now (time .entry)) (edgeTable (now (left .entry)) (now (right .entry)) (now (parent .entry)) (now (child .entry)))) (length (now (left .entry))) ⌝ }
 {
     let mut i = 0;
     while i < left.len() {
@@ -87,8 +88,14 @@ pub fn key_below(
     i: usize,
     j: usize,
 ) -> bool
-    requires { ⌜ (i < length (now left)) × (j < length (now left)) × NamedNodes (record { time = now time; birth = now birth }) (record { left = now left; right = now right; parent = now parent; child = now child }) ⌝ }
-    ensures { λ r. ⌜ r ≡ lex (keyOf (record { time = now (time .entry); birth = now (birth .entry) }) (record { left = now (left .entry); right = now (right .entry); parent = now (parent .entry); child = now (child .entry) }) i) (keyOf (record { time = now (time .entry); birth = now (birth .entry) }) (record { left = now (left .entry); right = now (right .entry); parent = now (parent .entry); child = now (child .entry) }) j) ⌝ }
+    requires { ⌜ (i < length (now left)) × (j < length (now left)) × NamedNodes (nodeTable (now time) (now birth)) (edgeTable (now left) (now right) (now parent) (now child)) ⌝ }
+    ensures { λ r. ⌜
+        r
+        ≡ lex (keyOf
+        (nodeTable (now (time .entry)) (now (birth .entry)))
+        (edgeTable (now (left .entry)) (now (right .entry)) (now (parent .entry)) (now (child .entry))) i) (keyOf
+        (nodeTable (now (time .entry)) (now (birth .entry)))
+        (edgeTable (now (left .entry)) (now (right .entry)) (now (parent .entry)) (now (child .entry))) j) ⌝ }
 {
     let p = parent[i] as usize;
     let q = parent[j] as usize;
@@ -116,8 +123,8 @@ fn unordered_at(
     child: &[u32],
     i: usize,
 ) -> bool
-    requires { ⌜ (i < length (now left)) × NamedNodes (record { time = now time; birth = now birth }) (record { left = now left; right = now right; parent = now parent; child = now child }) ⌝ }
-    ensures { λ r. ⌜ r ≡ edgeUnordered (record { time = now (time .entry); birth = now (birth .entry) }) (record { left = now (left .entry); right = now (right .entry); parent = now (parent .entry); child = now (child .entry) }) i ⌝ }
+    requires { ⌜ (i < length (now left)) × NamedNodes (nodeTable (now time) (now birth)) (edgeTable (now left) (now right) (now parent) (now child)) ⌝ }
+    ensures { λ r. ⌜ r ≡ edgeUnordered (nodeTable (now (time .entry)) (now (birth .entry))) (edgeTable (now (left .entry)) (now (right .entry)) (now (parent .entry)) (now (child .entry))) i ⌝ }
 {
     if i == 0 {
         return false;
@@ -134,8 +141,12 @@ pub fn first_unordered(
     parent: &[u32],
     child: &[u32],
 ) -> usize
-    requires { ⌜ NamedNodes (record { time = now time; birth = now birth }) (record { left = now left; right = now right; parent = now parent; child = now child }) ⌝ }
-    ensures { λ r. ⌜ r ≡ lowest (edgeUnordered (record { time = now (time .entry); birth = now (birth .entry) }) (record { left = now (left .entry); right = now (right .entry); parent = now (parent .entry); child = now (child .entry) })) (length (now (left .entry))) ⌝ }
+    requires { ⌜ NamedNodes (nodeTable (now time) (now birth)) (edgeTable (now left) (now right) (now parent) (now child)) ⌝ }
+    ensures { λ r. ⌜
+        r
+        ≡ lowest (edgeUnordered
+        (nodeTable (now (time .entry)) (now (birth .entry)))
+        (edgeTable (now (left .entry)) (now (right .entry)) (now (parent .entry)) (now (child .entry)))) (length (now (left .entry))) ⌝ }
 {
     let mut i = 0;
     while i < left.len() {
@@ -149,8 +160,8 @@ pub fn first_unordered(
 
 // 7: the lowest edge that shares a position with an earlier edge of the same child.
 pub fn first_shared(left: &[u32], right: &[u32], parent: &[u32], child: &[u32]) -> usize
-    requires { ⌜ EvenEdges (record { left = now left; right = now right; parent = now parent; child = now child }) ⌝ }
-    ensures { λ r. ⌜ r ≡ lowest (edgeShared (record { left = now (left .entry); right = now (right .entry); parent = now (parent .entry); child = now (child .entry) })) (length (now (left .entry))) ⌝ }
+    requires { ⌜ EvenEdges (edgeTable (now left) (now right) (now parent) (now child)) ⌝ }
+    ensures { λ r. ⌜ r ≡ lowest (edgeShared (edgeTable (now (left .entry)) (now (right .entry)) (now (parent .entry)) (now (child .entry)))) (length (now (left .entry))) ⌝ }
 {
     let n = left.len();
     if EdgeTable::MOST < n {

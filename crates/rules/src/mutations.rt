@@ -3,6 +3,7 @@ ghost use mathlib.Core.Path.{_≡_};
 ghost use Prim.Native.Nat.{_<_};
 ghost use lib.ListN.{length};
 ghost use Rattle.meaning.specs.Words.{lowest};
+ghost use Rattle.meaning.specs.Rows.{mutationTable};
 ghost use Rattle.meaning.specs.Check.{mutationBroken};
 
 // Whether mutation i names a row that does not exist, or a site row below that of the row before.
@@ -15,7 +16,7 @@ fn mutation_broken_at(
     i: usize,
 ) -> bool
     requires { ⌜ (i < length (now site)) × (length (now node) ≡ length (now site)) ⌝ }
-    ensures { λ r. ⌜ r ≡ mutationBroken sites nodes (record { site = now (site .entry); node = now (node .entry); derived = now (derived .entry) }) i ⌝ }
+    ensures { λ r. ⌜ r ≡ mutationBroken sites nodes (mutationTable (now (site .entry)) (now (node .entry)) (now (derived .entry))) i ⌝ }
 {
     if sites <= site[i] as usize {
         return true;
@@ -38,7 +39,7 @@ pub fn first_broken_mutation(
     derived: &[u8],
 ) -> usize
     requires { ⌜ length (now node) ≡ length (now site) ⌝ }
-    ensures { λ r. ⌜ r ≡ lowest (mutationBroken sites nodes (record { site = now (site .entry); node = now (node .entry); derived = now (derived .entry) })) (length (now (site .entry))) ⌝ }
+    ensures { λ r. ⌜ r ≡ lowest (mutationBroken sites nodes (mutationTable (now (site .entry)) (now (node .entry)) (now (derived .entry)))) (length (now (site .entry))) ⌝ }
 {
     let mut i = 0;
     while i < site.len() {

@@ -4,14 +4,15 @@ ghost use mathlib.Core.Path.{_≡_};
 ghost use Prim.Native.Nat.{_<_, _≤_};
 ghost use lib.ListN.{length};
 ghost use Rattle.meaning.specs.Words.{lowest, anyBelow};
+ghost use Rattle.meaning.specs.Rows.{edgeTable};
 ghost use Rattle.meaning.specs.Check.{share, edgeShared};
 ghost use Rattle.rules.specs.Asked.{EvenEdges};
 ghost use Rattle.rules.specs.Lined.{Lined, Somewhere, holdsNowhere};
 
 // Whether edges j and i have one child and share a position.
 fn shares(left: &[u32], right: &[u32], parent: &[u32], child: &[u32], j: usize, i: usize) -> bool
-    requires { ⌜ (j < length (now left)) × (i < length (now left)) × EvenEdges (record { left = now left; right = now right; parent = now parent; child = now child }) ⌝ }
-    ensures { λ r. ⌜ r ≡ share (record { left = now (left .entry); right = now (right .entry); parent = now (parent .entry); child = now (child .entry) }) j i ⌝ }
+    requires { ⌜ (j < length (now left)) × (i < length (now left)) × EvenEdges (edgeTable (now left) (now right) (now parent) (now child)) ⌝ }
+    ensures { λ r. ⌜ r ≡ share (edgeTable (now (left .entry)) (now (right .entry)) (now (parent .entry)) (now (child .entry))) j i ⌝ }
 {
     if child[j] != child[i] {
         return false;
@@ -31,8 +32,11 @@ fn some_shared(
     idx: &[u32],
     k: usize,
 ) -> bool
-    requires { ⌜ EvenEdges (record { left = now left; right = now right; parent = now parent; child = now child }) × Lined (share (record { left = now left; right = now right; parent = now parent; child = now child })) (length (now left)) (now idx) × (k ≤ length (now left)) ⌝ }
-    ensures { λ r. ⌜ r ≡ anyBelow (edgeShared (record { left = now (left .entry); right = now (right .entry); parent = now (parent .entry); child = now (child .entry) })) k ⌝ }
+    requires { ⌜
+        EvenEdges
+        (edgeTable (now left) (now right) (now parent) (now child)) × Lined (share
+        (edgeTable (now left) (now right) (now parent) (now child))) (length (now left)) (now idx) × (k ≤ length (now left)) ⌝ }
+    ensures { λ r. ⌜ r ≡ anyBelow (edgeShared (edgeTable (now (left .entry)) (now (right .entry)) (now (parent .entry)) (now (child .entry)))) k ⌝ }
 {
     let mut p = crate::places::next_below(idx, k, 0);
     while p < idx.len() {
@@ -50,8 +54,8 @@ fn some_shared(
 
 // The lowest edge that shares a position with an earlier one, by halving the range in which it lies.
 fn first_lined(left: &[u32], right: &[u32], parent: &[u32], child: &[u32], idx: &[u32]) -> usize
-    requires { ⌜ EvenEdges (record { left = now left; right = now right; parent = now parent; child = now child }) × Lined (share (record { left = now left; right = now right; parent = now parent; child = now child })) (length (now left)) (now idx) ⌝ }
-    ensures { λ r. ⌜ r ≡ lowest (edgeShared (record { left = now (left .entry); right = now (right .entry); parent = now (parent .entry); child = now (child .entry) })) (length (now (left .entry))) ⌝ }
+    requires { ⌜ EvenEdges (edgeTable (now left) (now right) (now parent) (now child)) × Lined (share (edgeTable (now left) (now right) (now parent) (now child))) (length (now left)) (now idx) ⌝ }
+    ensures { λ r. ⌜ r ≡ lowest (edgeShared (edgeTable (now (left .entry)) (now (right .entry)) (now (parent .entry)) (now (child .entry)))) (length (now (left .entry))) ⌝ }
 {
     if !some_shared(left, right, parent, child, idx, left.len()) {
         return left.len();
@@ -71,8 +75,12 @@ fn first_lined(left: &[u32], right: &[u32], parent: &[u32], child: &[u32], idx: 
 
 // Sorts the edges by (child, left); each of them holds somewhere.
 fn line_up(left: &[u32], right: &[u32], parent: &[u32], child: &[u32], idx: &mut [u32])
-    requires { ⌜ EvenEdges (record { left = now left; right = now right; parent = now parent; child = now child }) × Somewhere (record { left = now left; right = now right; parent = now parent; child = now child }) × (length (now idx) ≡ length (now left)) × (length (now left) ≤ 4294967296) ⌝ }
-    ensures { λ _. ⌜ Lined (share (record { left = now (left .entry); right = now (right .entry); parent = now (parent .entry); child = now (child .entry) })) (length (now (left .entry))) (now (idx .exit)) ⌝ }
+    requires { ⌜
+        EvenEdges
+        (edgeTable (now left) (now right) (now parent) (now child)) × Somewhere
+        (edgeTable (now left) (now right) (now parent) (now child)) × (length (now idx)
+        ≡ length (now left)) × (length (now left) ≤ 4294967296) ⌝ }
+    ensures { λ _. ⌜ Lined (share (edgeTable (now (left .entry)) (now (right .entry)) (now (parent .entry)) (now (child .entry)))) (length (now (left .entry))) (now (idx .exit)) ⌝ }
 {
     order::iota(idx);
     order::sort_rows(child, left, left, left, idx);
@@ -86,8 +94,12 @@ pub fn first_by_order(
     child: &[u32],
     idx: &mut [u32],
 ) -> usize
-    requires { ⌜ EvenEdges (record { left = now left; right = now right; parent = now parent; child = now child }) × Somewhere (record { left = now left; right = now right; parent = now parent; child = now child }) × (length (now idx) ≡ length (now left)) × (length (now left) ≤ 4294967296) ⌝ }
-    ensures { λ r. ⌜ r ≡ lowest (edgeShared (record { left = now (left .entry); right = now (right .entry); parent = now (parent .entry); child = now (child .entry) })) (length (now (left .entry))) ⌝ }
+    requires { ⌜
+        EvenEdges
+        (edgeTable (now left) (now right) (now parent) (now child)) × Somewhere
+        (edgeTable (now left) (now right) (now parent) (now child)) × (length (now idx)
+        ≡ length (now left)) × (length (now left) ≤ 4294967296) ⌝ }
+    ensures { λ r. ⌜ r ≡ lowest (edgeShared (edgeTable (now (left .entry)) (now (right .entry)) (now (parent .entry)) (now (child .entry)))) (length (now (left .entry))) ⌝ }
 {
     line_up(left, right, parent, child, idx);
     first_lined(left, right, parent, child, idx)
@@ -95,8 +107,8 @@ pub fn first_by_order(
 
 // Whether some edge holds nowhere.
 pub fn some_nowhere(left: &[u32], right: &[u32], parent: &[u32], child: &[u32]) -> bool
-    requires { ⌜ EvenEdges (record { left = now left; right = now right; parent = now parent; child = now child }) ⌝ }
-    ensures { λ r. ⌜ r ≡ anyBelow (holdsNowhere (record { left = now (left .entry); right = now (right .entry); parent = now (parent .entry); child = now (child .entry) })) (length (now (left .entry))) ⌝ }
+    requires { ⌜ EvenEdges (edgeTable (now left) (now right) (now parent) (now child)) ⌝ }
+    ensures { λ r. ⌜ r ≡ anyBelow (holdsNowhere (edgeTable (now (left .entry)) (now (right .entry)) (now (parent .entry)) (now (child .entry)))) (length (now (left .entry))) ⌝ }
 {
     let mut j = left.len();
     while 0 < j {
@@ -110,8 +122,8 @@ pub fn some_nowhere(left: &[u32], right: &[u32], parent: &[u32], child: &[u32]) 
 
 // Whether an earlier edge of the same child shares a position with edge i.
 fn shared_at(left: &[u32], right: &[u32], parent: &[u32], child: &[u32], i: usize) -> bool
-    requires { ⌜ (i < length (now left)) × EvenEdges (record { left = now left; right = now right; parent = now parent; child = now child }) ⌝ }
-    ensures { λ r. ⌜ r ≡ edgeShared (record { left = now (left .entry); right = now (right .entry); parent = now (parent .entry); child = now (child .entry) }) i ⌝ }
+    requires { ⌜ (i < length (now left)) × EvenEdges (edgeTable (now left) (now right) (now parent) (now child)) ⌝ }
+    ensures { λ r. ⌜ r ≡ edgeShared (edgeTable (now (left .entry)) (now (right .entry)) (now (parent .entry)) (now (child .entry))) i ⌝ }
 {
     let mut j = i;
     while 0 < j {
@@ -125,8 +137,8 @@ fn shared_at(left: &[u32], right: &[u32], parent: &[u32], child: &[u32], i: usiz
 
 // The lowest such edge by comparing edges in pairs, for columns that an earlier rule refuses: too long, or with an edge that holds nowhere.
 pub fn first_by_pairs(left: &[u32], right: &[u32], parent: &[u32], child: &[u32]) -> usize
-    requires { ⌜ EvenEdges (record { left = now left; right = now right; parent = now parent; child = now child }) ⌝ }
-    ensures { λ r. ⌜ r ≡ lowest (edgeShared (record { left = now (left .entry); right = now (right .entry); parent = now (parent .entry); child = now (child .entry) })) (length (now (left .entry))) ⌝ }
+    requires { ⌜ EvenEdges (edgeTable (now left) (now right) (now parent) (now child)) ⌝ }
+    ensures { λ r. ⌜ r ≡ lowest (edgeShared (edgeTable (now (left .entry)) (now (right .entry)) (now (parent .entry)) (now (child .entry)))) (length (now (left .entry))) ⌝ }
 {
     let mut i = 0;
     while i < left.len() {

@@ -3,6 +3,7 @@
 ghost use mathlib.Core.Path.{_≡_};
 ghost use Prim.Native.Nat.{_≤_};
 ghost use lib.ListN.{length, take};
+ghost use Rattle.meaning.specs.Rows.{nodeTable, edgeTable, siteTable, mutationTable, tables};
 ghost use Rattle.meaning.specs.Answer.{limits, refusalOf};
 ghost use Rattle.meaning.specs.Printed.{listed, refusedLine};
 ghost use Rattle.listing.specs.Written.{Printed, room};
@@ -43,8 +44,20 @@ fn list_rows(
     k: usize,
     out: &mut [u8],
 ) -> usize
-    requires { ⌜ Long (record { nodes = n; edges = e; sites = s; mutations = m }) (record { nodes = record { time = now time; birth = now birth }; edges = record { left = now left; right = now right; parent = now parent; child = now child }; sites = record { position = now position; ancestral = now ancestral }; muts = record { site = now site; node = now node; derived = now derived } }) × (k ≤ length (now map)) × (room n e s m k ≤ length (now out)) ⌝ }
-    ensures { λ r. ⌜ Printed (listed len (front (record { nodes = n; edges = e; sites = s; mutations = m }) (record { nodes = record { time = now (time .entry); birth = now (birth .entry) }; edges = record { left = now (left .entry); right = now (right .entry); parent = now (parent .entry); child = now (child .entry) }; sites = record { position = now (position .entry); ancestral = now (ancestral .entry) }; muts = record { site = now (site .entry); node = now (node .entry); derived = now (derived .entry) } })) (take k (now (map .entry)))) (now (out .entry)) (now (out .exit)) r ⌝ }
+    requires { ⌜
+        Long (record { nodes = n; edges = e; sites = s; mutations = m })
+        (tables
+        (nodeTable (now time) (now birth))
+        (edgeTable (now left) (now right) (now parent) (now child))
+        (siteTable (now position) (now ancestral))
+        (mutationTable (now site) (now node) (now derived))) × (k ≤ length (now map)) × (room n e s m k ≤ length (now out)) ⌝ }
+    ensures { λ r. ⌜
+        Printed (listed len (front (record { nodes = n; edges = e; sites = s; mutations = m })
+        (tables
+        (nodeTable (now (time .entry)) (now (birth .entry)))
+        (edgeTable (now (left .entry)) (now (right .entry)) (now (parent .entry)) (now (child .entry)))
+        (siteTable (now (position .entry)) (now (ancestral .entry)))
+        (mutationTable (now (site .entry)) (now (node .entry)) (now (derived .entry))))) (take k (now (map .entry)))) (now (out .entry)) (now (out .exit)) r ⌝ }
 {
     listing::list(
         len,
@@ -82,7 +95,13 @@ fn clean_and_list(
     out: &mut [u8],
 ) -> usize
     requires { ⌜ 307200 ≤ length (now out) ⌝ }
-    ensures { λ r. ⌜ Printed (cleanShown len (record { nodes = record { time = now (time .entry); birth = now (birth .entry) }; edges = record { left = now (left .entry); right = now (right .entry); parent = now (parent .entry); child = now (child .entry) }; sites = record { position = now (position .entry); ancestral = now (ancestral .entry) }; muts = record { site = now (site .entry); node = now (node .entry); derived = now (derived .entry) } }) (now (samples .entry))) (now (out .entry)) (now (out .exit)) r ⌝ }
+    ensures { λ r. ⌜
+        Printed (cleanShown len
+        (tables
+        (nodeTable (now (time .entry)) (now (birth .entry)))
+        (edgeTable (now (left .entry)) (now (right .entry)) (now (parent .entry)) (now (child .entry)))
+        (siteTable (now (position .entry)) (now (ancestral .entry)))
+        (mutationTable (now (site .entry)) (now (node .entry)) (now (derived .entry)))) (now (samples .entry))) (now (out .entry)) (now (out .exit)) r ⌝ }
 {
     let mut out_time = [0u32; meaning::NodeTable::MOST];
     let mut out_birth = [0u32; meaning::NodeTable::MOST];
@@ -172,8 +191,20 @@ fn clean_rows(
     rows: Rows,
     out: &mut [u8],
 ) -> usize
-    requires { ⌜ Long (record { nodes = rows .nodes; edges = rows .edges; sites = rows .sites; mutations = rows .mutations }) (record { nodes = record { time = now time; birth = now birth }; edges = record { left = now left; right = now right; parent = now parent; child = now child }; sites = record { position = now position; ancestral = now ancestral }; muts = record { site = now site; node = now node; derived = now derived } }) × (rows .samples ≤ length (now samples)) × (307200 ≤ length (now out)) ⌝ }
-    ensures { λ r. ⌜ Printed (cleanShown len (front (record { nodes = rows .nodes; edges = rows .edges; sites = rows .sites; mutations = rows .mutations }) (record { nodes = record { time = now (time .entry); birth = now (birth .entry) }; edges = record { left = now (left .entry); right = now (right .entry); parent = now (parent .entry); child = now (child .entry) }; sites = record { position = now (position .entry); ancestral = now (ancestral .entry) }; muts = record { site = now (site .entry); node = now (node .entry); derived = now (derived .entry) } })) (take (rows .samples) (now (samples .entry)))) (now (out .entry)) (now (out .exit)) r ⌝ }
+    requires { ⌜
+        Long (record { nodes = rows .nodes; edges = rows .edges; sites = rows .sites; mutations = rows .mutations })
+        (tables
+        (nodeTable (now time) (now birth))
+        (edgeTable (now left) (now right) (now parent) (now child))
+        (siteTable (now position) (now ancestral))
+        (mutationTable (now site) (now node) (now derived))) × (rows .samples ≤ length (now samples)) × (307200 ≤ length (now out)) ⌝ }
+    ensures { λ r. ⌜
+        Printed (cleanShown len (front (record { nodes = rows .nodes; edges = rows .edges; sites = rows .sites; mutations = rows .mutations })
+        (tables
+        (nodeTable (now (time .entry)) (now (birth .entry)))
+        (edgeTable (now (left .entry)) (now (right .entry)) (now (parent .entry)) (now (child .entry)))
+        (siteTable (now (position .entry)) (now (ancestral .entry)))
+        (mutationTable (now (site .entry)) (now (node .entry)) (now (derived .entry))))) (take (rows .samples) (now (samples .entry)))) (now (out .entry)) (now (out .exit)) r ⌝ }
 {
     let n = rows.nodes;
     let e = rows.edges;

@@ -1,5 +1,6 @@
 // Reading and writing 01's stored form. What the bytes mean is in crate `form`; answers and round trips are in specs/.
 ghost use mathlib.Core.Path.{_≡_};
+ghost use Rattle.meaning.specs.Rows.{nodeTable, edgeTable, siteTable, mutationTable, tables};
 ghost use Rattle.meaning.specs.Answer.{limits};
 ghost use Rattle.meaning.specs.Files.{reading, writing};
 ghost use Rattle.stored.specs.Answers.{readOf, writtenOf};
@@ -66,7 +67,19 @@ pub fn read(
     derived: &mut [u8],
     samples: &mut [u32],
 ) -> ReadAnswer
-    ensures { λ r. ⌜ readOf r (record { nodes = record { time = now (time .exit); birth = now (birth .exit) }; edges = record { left = now (left .exit); right = now (right .exit); parent = now (parent .exit); child = now (child .exit) }; sites = record { position = now (position .exit); ancestral = now (ancestral .exit) }; muts = record { site = now (site .exit); node = now (node .exit); derived = now (derived .exit) } }) (now (samples .exit)) ≡ reading 2 limits (now (bytes .entry)) (record { nodes = record { time = now (time .entry); birth = now (birth .entry) }; edges = record { left = now (left .entry); right = now (right .entry); parent = now (parent .entry); child = now (child .entry) }; sites = record { position = now (position .entry); ancestral = now (ancestral .entry) }; muts = record { site = now (site .entry); node = now (node .entry); derived = now (derived .entry) } }) (now (samples .entry)) ⌝ }
+    ensures { λ r. ⌜
+        readOf r
+        (tables
+        (nodeTable (now (time .exit)) (now (birth .exit)))
+        (edgeTable (now (left .exit)) (now (right .exit)) (now (parent .exit)) (now (child .exit)))
+        (siteTable (now (position .exit)) (now (ancestral .exit)))
+        (mutationTable (now (site .exit)) (now (node .exit)) (now (derived .exit)))) (now (samples .exit))
+        ≡ reading 2 limits (now (bytes .entry))
+        (tables
+        (nodeTable (now (time .entry)) (now (birth .entry)))
+        (edgeTable (now (left .entry)) (now (right .entry)) (now (parent .entry)) (now (child .entry)))
+        (siteTable (now (position .entry)) (now (ancestral .entry)))
+        (mutationTable (now (site .entry)) (now (node .entry)) (now (derived .entry)))) (now (samples .entry)) ⌝ }
 {
     let found = match form::walk::scan(bytes) {
         Scan::Found(l) => l,
@@ -131,7 +144,14 @@ pub fn write(
     derived: &[u8],
     bytes: &mut [u8],
 ) -> WriteAnswer
-    ensures { λ r. ⌜ writtenOf r (now (bytes .exit)) ≡ writing 2 limits len (record { nodes = record { time = now (time .entry); birth = now (birth .entry) }; edges = record { left = now (left .entry); right = now (right .entry); parent = now (parent .entry); child = now (child .entry) }; sites = record { position = now (position .entry); ancestral = now (ancestral .entry) }; muts = record { site = now (site .entry); node = now (node .entry); derived = now (derived .entry) } }) (now (samples .entry)) (now (bytes .entry)) ⌝ }
+    ensures { λ r. ⌜
+        writtenOf r (now (bytes .exit))
+        ≡ writing 2 limits len
+        (tables
+        (nodeTable (now (time .entry)) (now (birth .entry)))
+        (edgeTable (now (left .entry)) (now (right .entry)) (now (parent .entry)) (now (child .entry)))
+        (siteTable (now (position .entry)) (now (ancestral .entry)))
+        (mutationTable (now (site .entry)) (now (node .entry)) (now (derived .entry)))) (now (samples .entry)) (now (bytes .entry)) ⌝ }
 {
     let lengths = Lengths {
         time: time.len(),
