@@ -76,7 +76,10 @@ std::uint32_t gamete(Batch &batch, std::uint32_t time, const Fish &parent, std::
     batch.nodes.add(time, birth);
     batch.edges.add(0, point, dam_first ? parent.from_dam : parent.from_sire, birth);
     batch.edges.add(point, kLength, dam_first ? parent.from_sire : parent.from_dam, birth);
-    if (draw(4) == 0) batch.mutations.add(draw(sites), birth, static_cast<std::uint8_t>("CGT"[draw(3)]));
+    if (draw(4) == 0) {
+        const std::uint32_t site = draw(sites), state = draw(3); // one after the other, so that every compiler draws the same
+        batch.mutations.add(site, birth, static_cast<std::uint8_t>("CGT"[state]));
+    }
     return birth;
 }
 

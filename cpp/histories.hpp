@@ -1,4 +1,4 @@
-// Random histories, batches and damage for the tests, the same on every machine.
+// Random histories, batches and damage for the tests, the same in every run of one build (compilers may draw in another order).
 #ifndef HISTORIES_HPP
 #define HISTORIES_HPP
 
