@@ -1,29 +1,23 @@
--- Where a birth stands: the search for its row, its row in joined columns, and its time.
-use mathlib.Core.Path.{_≡_, refl, sym, ap, _∙_}
-use mathlib.Core.Bool.{Bool, true, false}
+-- Where a birth stands: its row in joined columns, and its time.
+use mathlib.Core.Path.{_≡_, sym, ap, _∙_}
+use mathlib.Core.Bool.{true, false}
 use mathlib.Core.List.{List, [], _∷_, _++_}
 use mathlib.Core.Logic.{_⊎_, inl, inr, ⊎-elim}
 use Prim.Native.Nat.{ℕ, zero, suc, _+_, _<_, _≤_}
 use native.Mathlib.Omega.{arith}
-use native.Mathlib.Numerals.{add-one}
-use lib.Dec.{eqb}
-use lib.ListN.{length, drop, drop-of-length-le}
-use lib.Seq.{drop-cons}
-use borrow.Author.Tests.{eq-eqb, ne-eqb, eqb-true, eqb-false}
+use lib.ListN.{length}
+use borrow.Author.Tests.{eq-eqb, ne-eqb}
 use Rattle.meaning.specs.Words.{at, mem, indexOf, rows, rowsFrom}
 use Rattle.meaning.specs.Rows.{NodeColumns, Node, births, nodesOf, nodeOf, timeOf}
 use Rattle.meaning.specs.Join.{timeIn}
 use Rattle.laws.specs.Bools.{clash, eq?, not-true, truth}
 use Rattle.laws.specs.Counting.{rows-at}
 use Rattle.laws.specs.Members.{index-below, mem-cases, mem-here, mem-there, mem-nil}
-use Rattle.history.specs.Nodes.{node-left, node-right, node-none, time-none}
-use Rattle.accepted.specs.Columns.{births-of, birth-in, birth-out}
+use Rattle.history.specs.Nodes.{node-left, node-right, time-none}
+use Rattle.accepted.specs.Columns.{births-of, birth-in}
+use Rattle.order.specs.Ranks.{index-none}
 
--- ---- a search up from i for the row of b
-
-pub index-nil : (b : ℕ) → indexOf b [] ≡ 0
-unfolding indexOf
-index-nil b = refl
+-- ---- the row of b, step by step
 
 pub index-first : (b a : ℕ) (l : List ℕ) → b ≡ a → indexOf b (a ∷ l) ≡ 0
 unfolding indexOf
@@ -33,33 +27,10 @@ pub index-later : (b a : ℕ) (l : List ℕ) → (b ≡ a → ⊥) → indexOf b
 unfolding indexOf
 index-later b a l n = rw (ne-eqb b a n, indexOf)
 
--- a search up keeps: the row from i on is the row of all
-abbrev pub Searched : List ℕ → ℕ → ℕ → Type 0
-Searched l b i = i + indexOf b (drop i l) ≡ indexOf b l
-
-module _ (l : List ℕ) (b i : ℕ) where
-  pub search-found : i < length l → b ≡ at l i → Searched l b i → i ≡ indexOf b l
-  search-found h e s = let q : indexOf b (drop i l) ≡ 0 = rw (drop-cons l i 0 h) (index-first b (at l i) (drop (suc i) l) e) in omega arith
-
-  pub search-on : i < length l → (b ≡ at l i → ⊥) → Searched l b i → Searched l b (i + 1)
-  search-on h n s =
-      let q : indexOf b (drop i l) ≡ suc (indexOf b (drop (i + 1) l)) = rw (drop-cons l i 0 h, add-one i) (index-later b (at l i) (drop (suc i) l) n) in
-      omega arith
-
-  pub search-none : i ≤ length l → length l ≤ i → Searched l b i → length l ≡ indexOf b l
-  search-none k h s = let q : indexOf b (drop i l) ≡ 0 = rw (drop-of-length-le l h) (index-nil b) in omega arith
-
 -- ---- the row says whether b is there
 
-pub index-absent : (b : ℕ) (l : List ℕ) → mem b l ≡ false → indexOf b l ≡ length l
-index-absent b [] h = index-nil b
-index-absent b (a ∷ l) h = ⊎-elim
-    (λ (e : b ≡ a). absurd (clash (mem-here b a l e) h))
-    (λ (n : b ≡ a → ⊥). index-later b a l n ∙ ap suc (index-absent b l (not-true (mem b l) (λ k. clash (mem-there b a l k) h))))
-    (eq? b a)
-
 pub index-there : (b : ℕ) (l : List ℕ) → indexOf b l < length l → mem b l ≡ true
-index-there b l h = ⊎-elim (λ (e : mem b l ≡ true). e) (λ (e : mem b l ≡ false). absurd (omega (arith, index-absent b l e))) (truth (mem b l))
+index-there b l h = ⊎-elim (λ (e : mem b l ≡ true). e) (λ (e : mem b l ≡ false). absurd (omega (arith, index-none b l e))) (truth (mem b l))
 
 pub index-not-there : (b : ℕ) (l : List ℕ) → length l ≤ indexOf b l → mem b l ≡ false
 index-not-there b l h = not-true (mem b l) (λ k. omega (arith, index-below b l k))
@@ -81,7 +52,7 @@ index-right b (a ∷ l) m h = ⊎-elim
     (eq? b a)
 
 pub index-le : (b : ℕ) (l : List ℕ) → indexOf b l ≤ length l
-index-le b l = ⊎-elim (λ (e : mem b l ≡ true). omega (arith, index-below b l e)) (λ (e : mem b l ≡ false). omega (arith, index-absent b l e)) (truth (mem b l))
+index-le b l = ⊎-elim (λ (e : mem b l ≡ true). omega (arith, index-below b l e)) (λ (e : mem b l ≡ false). omega (arith, index-none b l e)) (truth (mem b l))
 
 -- the same of the rows that the searches gave
 module _ (base birth : List ℕ) (b : ℕ) where

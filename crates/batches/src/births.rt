@@ -1,17 +1,21 @@
-// The birth numbers of a batch: where one stands, its time, and rule 22.
+// The birth numbers of a batch: the time of one, and rule 22.
 ghost use mathlib.Core.Path.{_≡_};
+ghost use Prim.Native.Nat.{_≤_};
 ghost use lib.ListN.{length};
-ghost use Rattle.meaning.specs.Words.{at, mem, indexOf, lowest};
+ghost use Rattle.meaning.specs.Words.{at, mem, lowest};
 ghost use Rattle.meaning.specs.Rows.{nodeTable};
 ghost use Rattle.meaning.specs.Join.{batchBirth, timeIn};
+ghost use Rattle.order.specs.Ranks.{Helps};
+use meaning::NodeTable;
 
-// The row of the birth b, or the number of rows where no row has it.
-pub fn row_of(l: &[u32], b: u32) -> usize
-    ensures { λ r. ⌜ r ≡ indexOf b (now (l .entry)) ⌝ }
+// The lowest row of l whose number is in the base; idx helps to find it.
+fn first_known(base: &[u32], idx: &[u32], l: &[u32]) -> usize
+    requires { ⌜ Helps (now base) (now idx) ⌝ }
+    ensures { λ r. ⌜ r ≡ lowest (λ i. mem (at (now (l .entry)) i) (now (base .entry))) (length (now (l .entry))) ⌝ }
 {
     let mut i = 0;
     while i < l.len() {
-        if b == l[i] {
+        if order::ranks::known(base, idx, l[i]) {
             return i;
         }
         i += 1;
@@ -19,25 +23,21 @@ pub fn row_of(l: &[u32], b: u32) -> usize
     l.len()
 }
 
-// The lowest row of l whose number is in the base.
-fn first_known(base: &[u32], l: &[u32]) -> usize
+// The lowest row of l whose number is in the base; idx is a working column.
+fn first_in_base(base: &[u32], l: &[u32], idx: &mut [u32]) -> usize
+    requires { ⌜ length (now idx) ≤ 4096 ⌝ }
     ensures { λ r. ⌜ r ≡ lowest (λ i. mem (at (now (l .entry)) i) (now (base .entry))) (length (now (l .entry))) ⌝ }
 {
-    let mut i = 0;
-    while i < l.len() {
-        if rules::columns::has(base, l[i]) {
-            return i;
-        }
-        i += 1;
-    }
-    l.len()
+    let k = order::ranks::rank_front(base, idx);
+    first_known(base, &idx[..k], l)
 }
 
 // 22: the lowest row whose birth number is in the base or earlier in the batch.
 pub fn first_batch_birth(base: &[u32], birth: &[u32]) -> usize
     ensures { λ r. ⌜ r ≡ lowest (batchBirth (now (base .entry)) (now (birth .entry))) (length (now (birth .entry))) ⌝ }
 {
-    let k = first_known(base, birth);
+    let mut idx = [0u32; NodeTable::MOST];
+    let k = first_in_base(base, birth, &mut idx);
     let t = rules::columns::first_repeated(birth);
     if k < t {
         return k;
@@ -45,16 +45,24 @@ pub fn first_batch_birth(base: &[u32], birth: &[u32]) -> usize
     t
 }
 
-// The time of the birth b, of the base or of the batch; 0 where neither has it.
-pub fn time_of(basetime: &[u32], basebirth: &[u32], time: &[u32], birth: &[u32], b: u32) -> u32
-    requires { ⌜ (length (now basebirth) ≡ length (now basetime)) × (length (now birth) ≡ length (now time)) ⌝ }
+// The time of the birth b, of the base or of the batch; 0 where neither has it. The columns baseidx and idx help to find it.
+pub fn time_of(
+    basetime: &[u32],
+    basebirth: &[u32],
+    baseidx: &[u32],
+    time: &[u32],
+    birth: &[u32],
+    idx: &[u32],
+    b: u32,
+) -> u32
+    requires { ⌜ (length (now basebirth) ≡ length (now basetime)) × (length (now birth) ≡ length (now time)) × Helps (now basebirth) (now baseidx) × Helps (now birth) (now idx) ⌝ }
     ensures { λ r. ⌜ r ≡ timeIn (nodeTable (now (basetime .entry)) (now (basebirth .entry))) (nodeTable (now (time .entry)) (now (birth .entry))) b ⌝ }
 {
-    let i = row_of(basebirth, b);
+    let i = order::ranks::row_of(basebirth, baseidx, b);
     if i < basetime.len() {
         return basetime[i];
     }
-    let j = row_of(birth, b);
+    let j = order::ranks::row_of(birth, idx, b);
     if j < time.len() {
         return time[j];
     }

@@ -7,7 +7,9 @@ ghost use Rattle.meaning.specs.Words.{at, indexOf};
 ghost use Rattle.meaning.specs.Rows.{edgeTable};
 ghost use Rattle.meaning.specs.Answer.{put, limits};
 ghost use Rattle.order.specs.Order.{Inside};
+ghost use Rattle.order.specs.Ranks.{Helps};
 ghost use Rattle.batches.specs.Joint.{rowsIn, jointEdges, JointRoom, JointPut};
+use meaning::NodeTable;
 
 // Cell i of a column and a second one after it.
 fn joined_cell(a: &[u32], b: &[u32], i: usize) -> u32
@@ -57,28 +59,75 @@ pub fn append_bytes(a: &[u8], b: &[u8], out: &mut [u8])
     }
 }
 
-// The row of the birth b among the base's nodes with the batch's after them.
-fn joined_row(base: &[u32], birth: &[u32], b: u32) -> u32
-    requires { ⌜ length (now base) + length (now birth) ≤ limits .nodes ⌝ }
+// The row of the birth b among the base's nodes with the batch's after them; baseidx and idx help to find it.
+fn joined_row(base: &[u32], baseidx: &[u32], birth: &[u32], idx: &[u32], b: u32) -> u32
+    requires { ⌜ (length (now base) + length (now birth) ≤ limits .nodes) × Helps (now base) (now baseidx) × Helps (now birth) (now idx) ⌝ }
     ensures { λ r. ⌜ r ≡ indexOf b (now (base .entry) ++ now (birth .entry)) ⌝ }
 {
-    let i = crate::births::row_of(base, b);
+    let i = order::ranks::row_of(base, baseidx, b);
     if i < base.len() {
         return i as u32;
     }
-    let j = crate::births::row_of(birth, b);
+    let j = order::ranks::row_of(birth, idx, b);
     (base.len() + j) as u32
 }
 
 // Cell i of a column of rows and the rows of births after it.
-fn row_cell(rows: &[u32], base: &[u32], birth: &[u32], names: &[u32], i: usize) -> u32
-    requires { ⌜ (i < length (now rows) + length (now names)) × (length (now base) + length (now birth) ≤ limits .nodes) ⌝ }
+fn row_cell(
+    rows: &[u32],
+    base: &[u32],
+    baseidx: &[u32],
+    birth: &[u32],
+    idx: &[u32],
+    names: &[u32],
+    i: usize,
+) -> u32
+    requires { ⌜ (i < length (now rows) + length (now names)) × (length (now base) + length (now birth) ≤ limits .nodes) × Helps (now base) (now baseidx) × Helps (now birth) (now idx) ⌝ }
     ensures { λ r. ⌜ r ≡ at (now (rows .entry) ++ map (λ b. indexOf b (now (base .entry) ++ now (birth .entry))) (now (names .entry))) i ⌝ }
 {
     if i < rows.len() {
         return rows[i];
     }
-    joined_row(base, birth, names[i - rows.len()])
+    joined_row(base, baseidx, birth, idx, names[i - rows.len()])
+}
+
+// Puts a column of rows, and after it the rows of the births that names has, to the front of out; baseidx and idx help to find them.
+fn append_found(
+    rows: &[u32],
+    base: &[u32],
+    baseidx: &[u32],
+    birth: &[u32],
+    idx: &[u32],
+    names: &[u32],
+    out: &mut [u32],
+)
+    requires { ⌜ (length (now rows) + length (now names) ≤ length (now out)) × (length (now base) + length (now birth) ≤ limits .nodes) × Helps (now base) (now baseidx) × Helps (now birth) (now idx) ⌝ }
+    ensures { λ _. ⌜ now (out .exit) ≡ put (now (rows .entry) ++ map (λ b. indexOf b (now (base .entry) ++ now (birth .entry))) (now (names .entry))) (now (out .entry)) ⌝ }
+{
+    let n = rows.len() + names.len();
+    let mut i = 0;
+    while i < n {
+        out[i] = row_cell(rows, base, baseidx, birth, idx, names, i);
+        i += 1;
+    }
+}
+
+// The same; baseidx and idx are working columns.
+fn append_ranked(
+    rows: &[u32],
+    base: &[u32],
+    baseidx: &mut [u32],
+    birth: &[u32],
+    idx: &mut [u32],
+    names: &[u32],
+    out: &mut [u32],
+)
+    requires { ⌜ (length (now rows) + length (now names) ≤ length (now out)) × (length (now base) + length (now birth) ≤ limits .nodes) × (length (now baseidx) ≤ 4096) × (length (now idx) ≤ 4096) ⌝ }
+    ensures { λ _. ⌜ now (out .exit) ≡ put (now (rows .entry) ++ map (λ b. indexOf b (now (base .entry) ++ now (birth .entry))) (now (names .entry))) (now (out .entry)) ⌝ }
+{
+    let j = order::ranks::rank_front(base, baseidx);
+    let k = order::ranks::rank_front(birth, idx);
+    append_found(rows, base, &baseidx[..j], birth, &idx[..k], names, out);
 }
 
 // Puts a column of rows, and after it the rows of the births that names has, to the front of out.
@@ -86,12 +135,9 @@ pub fn append_rows(rows: &[u32], base: &[u32], birth: &[u32], names: &[u32], out
     requires { ⌜ (length (now rows) + length (now names) ≤ length (now out)) × (length (now base) + length (now birth) ≤ limits .nodes) ⌝ }
     ensures { λ _. ⌜ now (out .exit) ≡ put (now (rows .entry) ++ map (λ b. indexOf b (now (base .entry) ++ now (birth .entry))) (now (names .entry))) (now (out .entry)) ⌝ }
 {
-    let n = rows.len() + names.len();
-    let mut i = 0;
-    while i < n {
-        out[i] = row_cell(rows, base, birth, names, i);
-        i += 1;
-    }
+    let mut baseidx = [0u32; NodeTable::MOST];
+    let mut idx = [0u32; NodeTable::MOST];
+    append_ranked(rows, base, &mut baseidx, birth, &mut idx, names, out);
 }
 
 // Puts the cells of src that idx names, in idx's order, to the front of out.

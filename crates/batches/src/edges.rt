@@ -1,31 +1,36 @@
 // Rule 23: the edges of a batch by birth number.
 ghost use mathlib.Core.Path.{_≡_};
 ghost use mathlib.Core.Bool.{not};
-ghost use Prim.Native.Nat.{_<_};
+ghost use Prim.Native.Nat.{_<_, _≤_};
 ghost use lib.ListN.{length};
 ghost use Rattle.meaning.specs.Words.{or, mem, lowest};
 ghost use Rattle.meaning.specs.Rows.{nodeTable, edgeTable};
 ghost use Rattle.meaning.specs.Join.{batchEdge};
 ghost use Rattle.rules.specs.Asked.{EvenEdges};
+ghost use Rattle.order.specs.Ranks.{Helps};
+use meaning::NodeTable;
 
-// Whether the birth b is in neither column.
-fn nowhere(base: &[u32], birth: &[u32], b: u32) -> bool
+// Whether the birth b is in neither column; baseidx and idx help to find it.
+fn nowhere(base: &[u32], baseidx: &[u32], birth: &[u32], idx: &[u32], b: u32) -> bool
+    requires { ⌜ Helps (now base) (now baseidx) × Helps (now birth) (now idx) ⌝ }
     ensures { λ r. ⌜ r ≡ not (or (mem b (now (base .entry))) (mem b (now (birth .entry)))) ⌝ }
 {
-    if rules::columns::has(base, b) {
+    if order::ranks::known(base, baseidx, b) {
         return false;
     }
-    !rules::columns::has(birth, b)
+    !order::ranks::known(birth, idx, b)
 }
 
 // Whether the child of batch edge i is no batch node, its parent is nowhere, it holds nowhere or past the chromosome, or its
-// parent is not older.
+// parent is not older. The columns baseidx and idx help to find a birth.
 fn batch_edge_at(
     len: u32,
     basetime: &[u32],
     basebirth: &[u32],
+    baseidx: &[u32],
     time: &[u32],
     birth: &[u32],
+    idx: &[u32],
     left: &[u32],
     right: &[u32],
     parent: &[u32],
@@ -34,7 +39,7 @@ fn batch_edge_at(
 ) -> bool
     requires { ⌜
         (i < length (now left)) × (length (now basebirth) ≡ length (now basetime)) × (length (now birth) ≡ length (now time)) × EvenEdges
-        (edgeTable (now left) (now right) (now parent) (now child)) ⌝ }
+        (edgeTable (now left) (now right) (now parent) (now child)) × Helps (now basebirth) (now baseidx) × Helps (now birth) (now idx) ⌝ }
     ensures { λ r. ⌜
         r
         ≡ batchEdge len
@@ -42,10 +47,10 @@ fn batch_edge_at(
         (nodeTable (now (time .entry)) (now (birth .entry)))
         (edgeTable (now (left .entry)) (now (right .entry)) (now (parent .entry)) (now (child .entry))) i ⌝ }
 {
-    if !rules::columns::has(birth, child[i]) {
+    if !order::ranks::known(birth, idx, child[i]) {
         return true;
     }
-    if nowhere(basebirth, birth, parent[i]) {
+    if nowhere(basebirth, baseidx, birth, idx, parent[i]) {
         return true;
     }
     if right[i] <= left[i] {
@@ -54,9 +59,97 @@ fn batch_edge_at(
     if len < right[i] {
         return true;
     }
-    let p = crate::births::time_of(basetime, basebirth, time, birth, parent[i]);
-    let c = crate::births::time_of(basetime, basebirth, time, birth, child[i]);
+    let p = crate::births::time_of(basetime, basebirth, baseidx, time, birth, idx, parent[i]);
+    let c = crate::births::time_of(basetime, basebirth, baseidx, time, birth, idx, child[i]);
     p <= c
+}
+
+// The lowest such edge.
+fn first_edge(
+    len: u32,
+    basetime: &[u32],
+    basebirth: &[u32],
+    baseidx: &[u32],
+    time: &[u32],
+    birth: &[u32],
+    idx: &[u32],
+    left: &[u32],
+    right: &[u32],
+    parent: &[u32],
+    child: &[u32],
+) -> usize
+    requires { ⌜
+        (length (now basebirth) ≡ length (now basetime)) × (length (now birth) ≡ length (now time)) × EvenEdges
+        (edgeTable (now left) (now right) (now parent) (now child)) × Helps (now basebirth) (now baseidx) × Helps (now birth) (now idx) ⌝ }
+    ensures { λ r. ⌜
+        r
+        ≡ lowest (batchEdge len
+        (nodeTable (now (basetime .entry)) (now (basebirth .entry)))
+        (nodeTable (now (time .entry)) (now (birth .entry)))
+        (edgeTable (now (left .entry)) (now (right .entry)) (now (parent .entry)) (now (child .entry)))) (length (now (left .entry))) ⌝ }
+{
+    let mut i = 0;
+    while i < left.len() {
+        if batch_edge_at(
+            len,
+            basetime,
+            basebirth,
+            baseidx,
+            time,
+            birth,
+            idx,
+            left,
+            right,
+            parent,
+            child,
+            i,
+        ) {
+            return i;
+        }
+        i += 1;
+    }
+    left.len()
+}
+
+// The same; baseidx and idx are working columns.
+fn first_ranked_edge(
+    len: u32,
+    basetime: &[u32],
+    basebirth: &[u32],
+    baseidx: &mut [u32],
+    time: &[u32],
+    birth: &[u32],
+    idx: &mut [u32],
+    left: &[u32],
+    right: &[u32],
+    parent: &[u32],
+    child: &[u32],
+) -> usize
+    requires { ⌜
+        (length (now basebirth) ≡ length (now basetime)) × (length (now birth) ≡ length (now time)) × EvenEdges
+        (edgeTable (now left) (now right) (now parent) (now child)) × (length (now baseidx) ≤ 4096) × (length (now idx) ≤ 4096) ⌝ }
+    ensures { λ r. ⌜
+        r
+        ≡ lowest (batchEdge len
+        (nodeTable (now (basetime .entry)) (now (basebirth .entry)))
+        (nodeTable (now (time .entry)) (now (birth .entry)))
+        (edgeTable (now (left .entry)) (now (right .entry)) (now (parent .entry)) (now (child .entry)))) (length (now (left .entry))) ⌝ }
+{
+    let j = order::ranks::rank_front(basebirth, baseidx);
+    let k = order::ranks::rank_front(birth, idx);
+    first_edge(
+        len,
+        basetime,
+        basebirth,
+        &baseidx[..j],
+        time,
+        birth,
+        &idx[..k],
+        left,
+        right,
+        parent,
+        child,
+    )
 }
 
 // 23: the lowest such edge.
@@ -79,23 +172,19 @@ pub fn first_batch_edge(
         (nodeTable (now (time .entry)) (now (birth .entry)))
         (edgeTable (now (left .entry)) (now (right .entry)) (now (parent .entry)) (now (child .entry)))) (length (now (left .entry))) ⌝ }
 {
-    let mut i = 0;
-    while i < left.len() {
-        if batch_edge_at(
-            len,
-            basetime,
-            basebirth,
-            time,
-            birth,
-            left,
-            right,
-            parent,
-            child,
-            i,
-        ) {
-            return i;
-        }
-        i += 1;
-    }
-    left.len()
+    let mut baseidx = [0u32; NodeTable::MOST];
+    let mut idx = [0u32; NodeTable::MOST];
+    first_ranked_edge(
+        len,
+        basetime,
+        basebirth,
+        &mut baseidx,
+        time,
+        birth,
+        &mut idx,
+        left,
+        right,
+        parent,
+        child,
+    )
 }

@@ -3,7 +3,7 @@ use meaning::NodeTable;
 ghost use mathlib.Core.Path.{_≡_};
 ghost use Prim.Native.Nat.{_<_};
 ghost use lib.ListN.{length};
-ghost use Rattle.meaning.specs.Words.{lowest, mem};
+ghost use Rattle.meaning.specs.Words.{lowest};
 ghost use Rattle.meaning.specs.Check.{repeated, sampleUnknown, siteBroken};
 
 // 4 and 12: the lowest row whose number an earlier row has.
@@ -16,20 +16,6 @@ pub fn first_repeated(l: &[u32]) -> usize
     }
     let mut idx = [0u32; NodeTable::MOST];
     crate::repeated::first_by_order(l, &mut idx[..n])
-}
-
-// Whether some row of l has the number b.
-pub fn has(l: &[u32], b: u32) -> bool
-    ensures { λ r. ⌜ r ≡ mem b (now (l .entry)) ⌝ }
-{
-    let mut i = 0;
-    while i < l.len() {
-        if b == l[i] {
-            return true;
-        }
-        i += 1;
-    }
-    false
 }
 
 // 11: the lowest sample that names no node.

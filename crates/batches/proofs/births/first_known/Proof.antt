@@ -9,25 +9,25 @@ use Rattle.meaning.specs.Words.{at, mem}
 use Rattle.laws.specs.Counting.{Sought, sought-start, sought-hit, sought-miss, sought-none}
 
 abbrev Inv-loop : tie.InvT-loop
-Inv-loop base l i₀ i = (i ≤ length l) × Sought (λ k. mem (at l k) base) (length l) i
+Inv-loop base idx l i₀ i = (i ≤ length l) × Sought (λ k. mem (at l k) base) (length l) i
 
 abbrev μ-loop : tie.MeasureT-loop
-μ-loop base l i₀ i = length l - i
+μ-loop base idx l i₀ i = length l - i
 
 loop-holds : tie.Need-loop-holds Inv-loop μ-loop
 loop-holds c = (search needs, sought-start _ _)
 
-mul-has : tie.Need-mul-has Inv-loop μ-loop
-mul-has c = search needs
+mul-known : tie.Need-mul-known Inv-loop μ-loop
+mul-known c = search needs
 
-shared-slice-read-has : tie.Need-shared-slice-read-has Inv-loop μ-loop
-shared-slice-read-has c = search needs
+shared-slice-read-known : tie.Need-shared-slice-read-known Inv-loop μ-loop
+shared-slice-read-known c = search needs
 
-has-requires : tie.Need-has-requires Inv-loop μ-loop
-has-requires c κs = search needs
+known-requires : tie.Need-known-requires Inv-loop μ-loop
+known-requires c κs = c .before .before .before .before .before .before .pre
 
 returns : tie.Need-returns Inv-loop μ-loop
-returns c = sought-hit _ _ _ (c .before .before .before .loop-test .taken) (c .before .before .before .before .loop .inv .1) (sym (c .before .has .ensures) ∙ c .if1 .taken)
+returns c = sought-hit _ _ _ (c .before .before .before .loop-test .taken) (c .before .before .before .before .loop .inv .1) (sym (c .before .known .ensures) ∙ c .if1 .taken)
 
 add-i : tie.Need-add-i Inv-loop μ-loop
 add-i c = search needs
@@ -36,7 +36,7 @@ loop-less : tie.Need-loop-less Inv-loop μ-loop
 loop-less c = search needs
 
 loop-again : tie.Need-loop-again Inv-loop μ-loop
-loop-again c = (search needs, sought-miss _ _ _ (c .before .before .before .loop-test .taken) (c .before .before .before .before .loop .inv .1) (sym (c .before .has .ensures) ∙ c .if1 .left))
+loop-again c = (search needs, sought-miss _ _ _ (c .before .before .before .loop-test .taken) (c .before .before .before .before .loop .inv .1) (sym (c .before .known .ensures) ∙ c .if1 .left))
 
 returns-2 : tie.Need-returns-2 Inv-loop μ-loop
 returns-2 c = sought-none _ _ _ (c .before .loop .inv .0) (c .loop-test .left) (c .before .loop .inv .1)
@@ -48,9 +48,9 @@ first-known-spec =
     Inv-loop
     μ-loop
     loop-holds
-    mul-has
-    shared-slice-read-has
-    has-requires
+    mul-known
+    shared-slice-read-known
+    known-requires
     returns
     add-i
     loop-less

@@ -8,22 +8,22 @@ use Prim.Native.Nat.{_+_}
 use Rattle.batches.proofs.Born.{row-in-base, row-in-batch, index-le}
 
 row-of-requires : tie.Need-row-of-requires
-row-of-requires c κs = search needs
+row-of-requires c κs = c .before .before .before .before .pre .1
 
 cast-result : tie.Need-cast-result
-cast-result c = omega (arith, c .if1 .taken, c .before .before .before .before .pre)
+cast-result c = omega (arith, c .if1 .taken, c .before .before .before .before .before .before .pre .0)
 
 returns : tie.Need-returns
 returns c = row-in-base _ _ _ _ (c .before .row-of .ensures) (c .if1 .taken)
 
 row-of-requires-2 : tie.Need-row-of-requires-2
-row-of-requires-2 c κs = search needs
+row-of-requires-2 c κs = c .before .before .before .before .before .before .pre .2
 
 add-result : tie.Need-add-result
-add-result c = omega (arith, c .row-of2 .ensures, index-le (c .before .before .before .before .before .args .b) (c .before .before .before .before .before .args .birth .now), c .before .before .before .before .before .pre)
+add-result c = omega (arith, c .row-of2 .ensures, index-le (c .before .before .before .before .before .before .before .args .b) (c .before .before .before .before .before .before .before .args .birth .now), c .before .before .before .before .before .before .before .pre .0)
 
 cast-result-2 : tie.Need-cast-result-2
-cast-result-2 c = omega (arith, c .row-of2 .ensures, index-le (c .before .before .before .before .before .args .b) (c .before .before .before .before .before .args .birth .now), c .before .before .before .before .before .pre)
+cast-result-2 c = omega (arith, c .row-of2 .ensures, index-le (c .before .before .before .before .before .before .before .args .b) (c .before .before .before .before .before .before .before .args .birth .now), c .before .before .before .before .before .before .before .pre .0)
 
 returns-2 : tie.Need-returns-2
 returns-2 c = row-in-batch _ _ _ _ _ (c .before .before .row-of .ensures) (c .row-of2 .ensures) (c .before .if1 .left)

@@ -14,22 +14,22 @@ shared-slice-read-if1 : tie.Need-shared-slice-read-if1
 shared-slice-read-if1 c = search needs
 
 cast-if1 : tie.Need-cast-if1
-cast-if1 c = omega (arith, c .shared-slice-known5 .given (c .before .before .before .before .before .args .i))
+cast-if1 c = omega (arith, c .shared-slice-known6 .given (c .before .before .before .before .before .before .args .i))
 
 returns : tie.Need-returns
 returns c = sym (batch-no-site _ _ _ _ (c .if1 .taken))
 
-mul-has : tie.Need-mul-has
-mul-has c = search needs
+mul-known : tie.Need-mul-known
+mul-known c = search needs
 
-shared-slice-read-has : tie.Need-shared-slice-read-has
-shared-slice-read-has c = search needs
+shared-slice-read-known : tie.Need-shared-slice-read-known
+shared-slice-read-known c = search needs
 
-has-requires : tie.Need-has-requires
-has-requires c κs = search needs
+known-requires : tie.Need-known-requires
+known-requires c κs = c .before .before .before .before .before .before .before .before .pre .2
 
 returns-2 : tie.Need-returns-2
-returns-2 c = ap not (c .has .ensures) ∙ sym (batch-node _ _ _ _ (c .before .before .if1 .left))
+returns-2 c = ap not (c .known .ensures) ∙ sym (batch-node _ _ _ _ (c .before .before .if1 .left))
 
 pub batch-mutation-at-spec : {M : Type 1} → statement M
 batch-mutation-at-spec =
@@ -39,7 +39,7 @@ batch-mutation-at-spec =
     shared-slice-read-if1
     cast-if1
     returns
-    mul-has
-    shared-slice-read-has
-    has-requires
+    mul-known
+    shared-slice-read-known
+    known-requires
     returns-2)
