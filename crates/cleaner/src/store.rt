@@ -4,7 +4,7 @@ ghost use mathlib.Core.List.{List, map};
 ghost use Prim.Native.Nat.{ℕ, _<_, _≤_};
 ghost use lib.ListN.{length, take};
 ghost use Rattle.meaning.specs.Words.{at};
-ghost use Rattle.meaning.specs.Rows.{Tables, nodeTable, edgeTable, siteTable, mutationTable, tables};
+ghost use Rattle.meaning.specs.Rows.{Tables};
 ghost use Rattle.meaning.specs.Answer.{limits, put};
 ghost use Rattle.order.specs.Order.{Inside};
 ghost use Rattle.meaning.specs.Clean.{outcomeOf, cleanEnd, cleanFit};
@@ -118,25 +118,8 @@ fn write_all(
     out_derived: &mut [u8],
     out_map: &mut [u32],
 )
-    requires { ⌜
-        Safe (record { time = now time; birth = now birth; position = now position; ancestral = now ancestral; site = now site; derived = now derived }) (record { kept = now kept; left = now left; right = now right; parent = now parent; child = now child; order = now order; places = now places; lows = now lows; moved = now moved; nodes = nodes; edges = edges; mutations = mutations }) × RoomFor (record { nodes = nodes; edges = edges; sites = length (now position); mutations = mutations; rows = length (now time) }) (lentBy
-        (tables
-        (nodeTable (now «out_time») (now «out_birth»))
-        (edgeTable (now «out_left») (now «out_right») (now «out_parent») (now «out_child»))
-        (siteTable (now «out_position») (now «out_ancestral»))
-        (mutationTable (now «out_site») (now «out_node») (now «out_derived»))) (now «out_map»)) ⌝ }
-    ensures { λ _. ⌜
-        Written (record { time = now (time .entry); birth = now (birth .entry); position = now (position .entry); ancestral = now (ancestral .entry); site = now (site .entry); derived = now (derived .entry) }) (record { kept = now (kept .entry); left = now (left .entry); right = now (right .entry); parent = now (parent .entry); child = now (child .entry); order = now (order .entry); places = now (places .entry); lows = now (lows .entry); moved = now (moved .entry); nodes = nodes; edges = edges; mutations = mutations })
-        (tables
-        (nodeTable (now («out_time» .entry)) (now («out_birth» .entry)))
-        (edgeTable (now («out_left» .entry)) (now («out_right» .entry)) (now («out_parent» .entry)) (now («out_child» .entry)))
-        (siteTable (now («out_position» .entry)) (now («out_ancestral» .entry)))
-        (mutationTable (now («out_site» .entry)) (now («out_node» .entry)) (now («out_derived» .entry)))) (now («out_map» .entry))
-        (tables
-        (nodeTable (now («out_time» .exit)) (now («out_birth» .exit)))
-        (edgeTable (now («out_left» .exit)) (now («out_right» .exit)) (now («out_parent» .exit)) (now («out_child» .exit)))
-        (siteTable (now («out_position» .exit)) (now («out_ancestral» .exit)))
-        (mutationTable (now («out_site» .exit)) (now («out_node» .exit)) (now («out_derived» .exit)))) (now («out_map» .exit)) ⌝ }
+    requires { ⌜ Safe (record { time = now time; birth = now birth; position = now position; ancestral = now ancestral; site = now site; derived = now derived }) (record { kept = now kept; left = now left; right = now right; parent = now parent; child = now child; order = now order; places = now places; lows = now lows; moved = now moved; nodes = nodes; edges = edges; mutations = mutations }) × RoomFor (record { nodes = nodes; edges = edges; sites = length (now position); mutations = mutations; rows = length (now time) }) (lentBy (record { nodes = record { time = now «out_time»; birth = now «out_birth» }; edges = record { left = now «out_left»; right = now «out_right»; parent = now «out_parent»; child = now «out_child» }; sites = record { position = now «out_position»; ancestral = now «out_ancestral» }; muts = record { site = now «out_site»; node = now «out_node»; derived = now «out_derived» } }) (now «out_map»)) ⌝ }
+    ensures { λ _. ⌜ Written (record { time = now (time .entry); birth = now (birth .entry); position = now (position .entry); ancestral = now (ancestral .entry); site = now (site .entry); derived = now (derived .entry) }) (record { kept = now (kept .entry); left = now (left .entry); right = now (right .entry); parent = now (parent .entry); child = now (child .entry); order = now (order .entry); places = now (places .entry); lows = now (lows .entry); moved = now (moved .entry); nodes = nodes; edges = edges; mutations = mutations }) (record { nodes = record { time = now («out_time» .entry); birth = now («out_birth» .entry) }; edges = record { left = now («out_left» .entry); right = now («out_right» .entry); parent = now («out_parent» .entry); child = now («out_child» .entry) }; sites = record { position = now («out_position» .entry); ancestral = now («out_ancestral» .entry) }; muts = record { site = now («out_site» .entry); node = now («out_node» .entry); derived = now («out_derived» .entry) } }) (now («out_map» .entry)) (record { nodes = record { time = now («out_time» .exit); birth = now («out_birth» .exit) }; edges = record { left = now («out_left» .exit); right = now («out_right» .exit); parent = now («out_parent» .exit); child = now («out_child» .exit) }; sites = record { position = now («out_position» .exit); ancestral = now («out_ancestral» .exit) }; muts = record { site = now («out_site» .exit); node = now («out_node» .exit); derived = now («out_derived» .exit) } }) (now («out_map» .exit)) ⌝ }
 {
     write_nodes(time, birth, kept, nodes, out_time, out_birth);
     write_edges(
@@ -200,24 +183,7 @@ pub fn store(
     cells: usize,
 ) -> Tabled
     requires { ⌜ Safe (record { time = now time; birth = now birth; position = now position; ancestral = now ancestral; site = now site; derived = now derived }) (record { kept = now kept; left = now left; right = now right; parent = now parent; child = now child; order = now order; places = now places; lows = now lows; moved = now moved; nodes = nodes; edges = edges; mutations = mutations }) ⌝ }
-    ensures { λ r. ⌜
-        ((new : Tables) (newMap : List ℕ) → Held (record { time = now (time .entry); birth = now (birth .entry); position = now (position .entry); ancestral = now (ancestral .entry); site = now (site .entry); derived = now (derived .entry) }) (record { kept = now (kept .entry); left = now (left .entry); right = now (right .entry); parent = now (parent .entry); child = now (child .entry); order = now (order .entry); places = now (places .entry); lows = now (lows .entry); moved = now (moved .entry); nodes = nodes; edges = edges; mutations = mutations }) new newMap → outcomeOf r
-        (tables
-        (nodeTable (now («out_time» .exit)) (now («out_birth» .exit)))
-        (edgeTable (now («out_left» .exit)) (now («out_right» .exit)) (now («out_parent» .exit)) (now («out_child» .exit)))
-        (siteTable (now («out_position» .exit)) (now («out_ancestral» .exit)))
-        (mutationTable (now («out_site» .exit)) (now («out_node» .exit)) (now («out_derived» .exit)))) (now («out_map» .exit))
-        ≡ cleanEnd (cleanFit limits new newMap
-        (tables
-        (nodeTable (now («out_time» .entry)) (now («out_birth» .entry)))
-        (edgeTable (now («out_left» .entry)) (now («out_right» .entry)) (now («out_parent» .entry)) (now («out_child» .entry)))
-        (siteTable (now («out_position» .entry)) (now («out_ancestral» .entry)))
-        (mutationTable (now («out_site» .entry)) (now («out_node» .entry)) (now («out_derived» .entry)))) (now («out_map» .entry)) cells) new newMap
-        (tables
-        (nodeTable (now («out_time» .entry)) (now («out_birth» .entry)))
-        (edgeTable (now («out_left» .entry)) (now («out_right» .entry)) (now («out_parent» .entry)) (now («out_child» .entry)))
-        (siteTable (now («out_position» .entry)) (now («out_ancestral» .entry)))
-        (mutationTable (now («out_site» .entry)) (now («out_node» .entry)) (now («out_derived» .entry)))) (now («out_map» .entry))) ⌝ }
+    ensures { λ r. ⌜ ((new : Tables) (newMap : List ℕ) → Held (record { time = now (time .entry); birth = now (birth .entry); position = now (position .entry); ancestral = now (ancestral .entry); site = now (site .entry); derived = now (derived .entry) }) (record { kept = now (kept .entry); left = now (left .entry); right = now (right .entry); parent = now (parent .entry); child = now (child .entry); order = now (order .entry); places = now (places .entry); lows = now (lows .entry); moved = now (moved .entry); nodes = nodes; edges = edges; mutations = mutations }) new newMap → outcomeOf r (record { nodes = record { time = now («out_time» .exit); birth = now («out_birth» .exit) }; edges = record { left = now («out_left» .exit); right = now («out_right» .exit); parent = now («out_parent» .exit); child = now («out_child» .exit) }; sites = record { position = now («out_position» .exit); ancestral = now («out_ancestral» .exit) }; muts = record { site = now («out_site» .exit); node = now («out_node» .exit); derived = now («out_derived» .exit) } }) (now («out_map» .exit)) ≡ cleanEnd (cleanFit limits new newMap (record { nodes = record { time = now («out_time» .entry); birth = now («out_birth» .entry) }; edges = record { left = now («out_left» .entry); right = now («out_right» .entry); parent = now («out_parent» .entry); child = now («out_child» .entry) }; sites = record { position = now («out_position» .entry); ancestral = now («out_ancestral» .entry) }; muts = record { site = now («out_site» .entry); node = now («out_node» .entry); derived = now («out_derived» .entry) } }) (now («out_map» .entry)) cells) new newMap (record { nodes = record { time = now («out_time» .entry); birth = now («out_birth» .entry) }; edges = record { left = now («out_left» .entry); right = now («out_right» .entry); parent = now («out_parent» .entry); child = now («out_child» .entry) }; sites = record { position = now («out_position» .entry); ancestral = now («out_ancestral» .entry) }; muts = record { site = now («out_site» .entry); node = now («out_node» .entry); derived = now («out_derived» .entry) } }) (now («out_map» .entry))) ⌝ }
 {
     let t = writing::within::no_room_within(
         nodes,

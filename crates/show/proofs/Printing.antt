@@ -30,12 +30,12 @@ refusal-printed x new = rw (refusal-refuses x, printedBy)
 
 module _ (L : ℕ) (T : Tables) (S : List ℕ) (n : Counts) (cells : Tables) (nodemap : List ℕ) where
   -- a cleaning that is done prints its result
-  pub clean-listed : record { answer = done; counts = n; cells = cells; map = nodemap } ≡ cleaning stands limits L T S blank (zeros (limits .nodes)) → listed L (front n cells) (take (length (T .nodes .birth)) nodemap) ≡ cleanShown L T S
+  pub clean-listed : record { answer = done; counts = n; cells = cells; map = nodemap } ≡ cleaning stands limits L T S blank (zeros (limits .nodes)) 4 → listed L (front n cells) (take (length (T .nodes .birth)) nodemap) ≡ cleanShown L T S
   unfolding cleanShown outcomeShown printedBy accepted
   clean-listed e = ap (outcomeShown L (length (T .nodes .birth))) e
 
   -- and one that is refused its line
-  pub clean-refused : (x : Refusal) → record { answer = refusalOf x; counts = n; cells = cells; map = nodemap } ≡ cleaning stands limits L T S blank (zeros (limits .nodes)) → refusedLine (refusalOf x .number) (refusalOf x .row) ≡ cleanShown L T S
+  pub clean-refused : (x : Refusal) → record { answer = refusalOf x; counts = n; cells = cells; map = nodemap } ≡ cleaning stands limits L T S blank (zeros (limits .nodes)) 4 → refusedLine (refusalOf x .number) (refusalOf x .row) ≡ cleanShown L T S
   unfolding cleanShown outcomeShown
   clean-refused x e = sym (refusal-printed x _) ∙ ap (outcomeShown L (length (T .nodes .birth))) e
 

@@ -85,7 +85,7 @@ fn refusal(number: u64, row: usize) -> Seen {
 
 fn refused(x: Refusal) -> Seen {
     let t = meaning::tell(x);
-    refusal(t.number, t.row)
+    refusal(t.number as u64, t.row)
 }
 
 fn answered(r: ReadAnswer) -> Seen {
