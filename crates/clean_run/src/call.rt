@@ -1,6 +1,5 @@
 // One call of the cleaner on the columns of a case, and what came of it held to what is due.
 ghost use Prim.Native.Nat.{_<_};
-use crate::cells;
 use meaning::Refusal;
 use meaning::Tabled;
 
@@ -70,12 +69,12 @@ fn answered(r: Tabled) -> Seen {
 }
 
 fn due(w: &[u32], at: usize) -> usize {
-    cells::get(w, at) as usize
+    cases::get(w, at) as usize
 }
 
 // Whether number, row and counts are those due.
 fn agrees(w: &[u32], s: Seen) -> bool {
-    if s.number != cells::get(w, ANSWER) {
+    if s.number != cases::get(w, ANSWER) {
         return false;
     }
     if s.row != due(w, ANSWER + 1) {
@@ -93,17 +92,34 @@ fn agrees(w: &[u32], s: Seen) -> bool {
     s.mutations == due(w, ANSWER + 5)
 }
 
+// The column whose start and length stand in the cells at and at + 1; none where there are not so many.
+fn column(w: &[u32], at: usize) -> &[u32]
+    requires { ⌜ at < 1000 ⌝ }
+{
+    cases::column(w, at, 0)
+}
+
+// The bytes from a on, n of them; none where there are not so many.
+fn states(s: &[u8], from: u32, n: u32) -> &[u8] {
+    let a = from as usize;
+    let e = a + n as usize;
+    if s.len() < e {
+        return &s[..0];
+    }
+    &s[a..e]
+}
+
 // Whether a column of words is the one due.
 fn same(w: &[u32], at: usize, a: &[u32]) -> bool
     requires { ⌜ at < 1000 ⌝ }
 {
-    cells::holds(a, cells::column(w, at))
+    cases::holds(a, column(w, at))
 }
 
 fn same_states(w: &[u32], at: usize, a: &[u8]) -> bool
     requires { ⌜ at < 1000 ⌝ }
 {
-    cells::holds_states(a, cells::column(w, at))
+    cases::holds_states(a, column(w, at))
 }
 
 // The cleaner on the given columns, with the lent length of each column.
@@ -123,32 +139,32 @@ fn clean_lent(
     out_derived: &mut [u8],
     out_map: &mut [u32],
 ) -> Seen {
-    let time = cells::fit(w, LENT + 0, out_time.len());
-    let birth = cells::fit(w, LENT + 1, out_birth.len());
-    let left = cells::fit(w, LENT + 2, out_left.len());
-    let right = cells::fit(w, LENT + 3, out_right.len());
-    let parent = cells::fit(w, LENT + 4, out_parent.len());
-    let child = cells::fit(w, LENT + 5, out_child.len());
-    let position = cells::fit(w, LENT + 6, out_position.len());
-    let ancestral = cells::fit(w, LENT + 7, out_ancestral.len());
-    let site = cells::fit(w, LENT + 8, out_site.len());
-    let node = cells::fit(w, LENT + 9, out_node.len());
-    let derived = cells::fit(w, LENT + 10, out_derived.len());
-    let map = cells::fit(w, LENT + 11, out_map.len());
+    let time = cases::fit(w, LENT + 0, out_time.len());
+    let birth = cases::fit(w, LENT + 1, out_birth.len());
+    let left = cases::fit(w, LENT + 2, out_left.len());
+    let right = cases::fit(w, LENT + 3, out_right.len());
+    let parent = cases::fit(w, LENT + 4, out_parent.len());
+    let child = cases::fit(w, LENT + 5, out_child.len());
+    let position = cases::fit(w, LENT + 6, out_position.len());
+    let ancestral = cases::fit(w, LENT + 7, out_ancestral.len());
+    let site = cases::fit(w, LENT + 8, out_site.len());
+    let node = cases::fit(w, LENT + 9, out_node.len());
+    let derived = cases::fit(w, LENT + 10, out_derived.len());
+    let map = cases::fit(w, LENT + 11, out_map.len());
     answered(cleaner::clean(
-        cells::get(w, LENGTH),
-        cells::column(w, GIVEN + 0),
-        cells::column(w, GIVEN + 2),
-        cells::column(w, GIVEN + 4),
-        cells::column(w, GIVEN + 6),
-        cells::column(w, GIVEN + 8),
-        cells::column(w, GIVEN + 10),
-        cells::column(w, GIVEN + 12),
-        cells::states(bytes, cells::get(w, GIVEN + 14), cells::get(w, GIVEN + 15)),
-        cells::column(w, GIVEN + 16),
-        cells::column(w, GIVEN + 18),
-        cells::states(bytes, cells::get(w, GIVEN + 20), cells::get(w, GIVEN + 21)),
-        cells::column(w, GIVEN + 22),
+        cases::get(w, LENGTH),
+        column(w, GIVEN + 0),
+        column(w, GIVEN + 2),
+        column(w, GIVEN + 4),
+        column(w, GIVEN + 6),
+        column(w, GIVEN + 8),
+        column(w, GIVEN + 10),
+        column(w, GIVEN + 12),
+        states(bytes, cases::get(w, GIVEN + 14), cases::get(w, GIVEN + 15)),
+        column(w, GIVEN + 16),
+        column(w, GIVEN + 18),
+        states(bytes, cases::get(w, GIVEN + 20), cases::get(w, GIVEN + 21)),
+        column(w, GIVEN + 22),
         &mut out_time[..time],
         &mut out_birth[..birth],
         &mut out_left[..left],
@@ -207,18 +223,18 @@ fn same_mutations(w: &[u32], site: &[u32], node: &[u32], derived: &[u8]) -> bool
 
 // Whether a case goes as it is due: its answer, and every cell of every lent column and past it.
 pub fn goes(w: &[u32], bytes: &[u8]) -> bool {
-    let mut time = [cells::PATTERN; NODES];
-    let mut birth = [cells::PATTERN; NODES];
-    let mut left = [cells::PATTERN; EDGES];
-    let mut right = [cells::PATTERN; EDGES];
-    let mut parent = [cells::PATTERN; EDGES];
-    let mut child = [cells::PATTERN; EDGES];
-    let mut position = [cells::PATTERN; SITES];
-    let mut ancestral = [cells::MARK; SITES];
-    let mut site = [cells::PATTERN; MUTATIONS];
-    let mut node = [cells::PATTERN; MUTATIONS];
-    let mut derived = [cells::MARK; MUTATIONS];
-    let mut map = [cells::PATTERN; NODES];
+    let mut time = [cases::PATTERN; NODES];
+    let mut birth = [cases::PATTERN; NODES];
+    let mut left = [cases::PATTERN; EDGES];
+    let mut right = [cases::PATTERN; EDGES];
+    let mut parent = [cases::PATTERN; EDGES];
+    let mut child = [cases::PATTERN; EDGES];
+    let mut position = [cases::PATTERN; SITES];
+    let mut ancestral = [cases::MARK; SITES];
+    let mut site = [cases::PATTERN; MUTATIONS];
+    let mut node = [cases::PATTERN; MUTATIONS];
+    let mut derived = [cases::MARK; MUTATIONS];
+    let mut map = [cases::PATTERN; NODES];
     let seen = clean_lent(
         w,
         bytes,

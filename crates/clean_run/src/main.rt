@@ -1,9 +1,7 @@
 // Runs the cleaner on the cases of standard input, which cases.py made with a cleaner of its own,
 // and says for each group how many cases there were and how many differ.
 mod call;
-mod cells;
 
-use libc::STDIN_FILENO;
 use libc::STDOUT_FILENO;
 
 // The most bytes of a case, and the most numbers.
@@ -19,48 +17,28 @@ enum Turn {
     Group,
 }
 
-// The first bytes.
-fn front(s: &[u8], n: usize) -> &[u8] {
-    if n <= s.len() { &s[..n] } else { s }
-}
-
-// Fills the front of a buffer with the next bytes of the input; whether there were so many.
-fn fetch(buffer: &mut [u8], n: usize) -> bool {
-    if n <= buffer.len() {
-        let came = io::read_full(STDIN_FILENO, &mut buffer[..n]);
-        came == n
-    } else {
-        false
-    }
-}
-
 // A case's numbers, taken from its bytes, and whether the call goes as they say.
 fn judge(bytes: &[u8], from: usize, n: usize) -> bool {
     let mut w = [0u32; CELLS];
-    cells::decode(bytes, from, n, &mut w);
+    cases::decode(bytes, from, n, &mut w);
     call::goes(&w, bytes)
 }
 
-// One case: its kind (0 ends a group and holds its name), its bytes, where its numbers start in them, and how many.
+// One case; kind 0 ends a group and holds its name.
 fn take_case() -> Turn {
-    let mut head = [0u8; 16];
-    let got = io::read_full(STDIN_FILENO, &mut head);
-    if got < 16 {
+    let h = cases::next_case();
+    if !h.there {
         return Turn::Over;
     }
-    let kind = cells::four(&head, 0);
-    let n = cells::four(&head, 4) as usize;
-    let from = cells::four(&head, 8) as usize;
-    let count = cells::four(&head, 12) as usize;
     let mut bytes = [0u8; BYTES];
-    if !fetch(&mut bytes, n) {
+    if !cases::fetch(&mut bytes, h.bytes) {
         return Turn::Over;
     }
-    if kind == 0 {
-        io::write_all(STDOUT_FILENO, front(&bytes, n));
+    if h.kind == 0 {
+        io::write_all(STDOUT_FILENO, cases::front(&bytes, h.bytes));
         return Turn::Group;
     }
-    if judge(front(&bytes, n), from, count) {
+    if judge(cases::front(&bytes, h.bytes), h.from, h.count) {
         Turn::Same
     } else {
         Turn::Differs
