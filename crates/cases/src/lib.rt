@@ -1,4 +1,4 @@
-// Cases on standard input for the programs that run joins: numbers in few bytes, the columns that they name, and columns held to
+// Cases on standard input for the programs that run cleanings, joins and histories: numbers in few bytes, the columns that they name, and columns held to
 // those due. A case is four words (kind, its bytes, where its numbers start in them, how many numbers), then the bytes.
 ghost use Prim.Native.Nat.{_<_, _≤_};
 use libc::STDIN_FILENO;
