@@ -9,12 +9,12 @@ use Rattle.meaning.specs.Words.{at, mem}
 use Rattle.meaning.specs.Rows.{Tables, Edge, nodeAt, recordOf}
 use Rattle.meaning.specs.Forest.{stands}
 use lib.Dec.{ltb}
-use Rattle.meaning.specs.Answer.{Answer, Limits, done, limits, accepted, refuse, put}
-use Rattle.meaning.specs.Lent.{no-rows-written, rowsIn, putAll}
-use Rattle.meaning.specs.Check.{check}
-use Rattle.meaning.specs.Clean.{cleaned, nodeMap, cleanEnd, cleanAnswer, cleaning}
+use Rattle.meaning.specs.Answer.{Answer, Limits, done, limits, accepted, refuse, lacks, put}
+use Rattle.meaning.specs.Lent.{no-rows-written, rowsIn, putAll, fitThen, blockThen}
+use Rattle.meaning.specs.Check.{check, checkAllThen}
+use Rattle.meaning.specs.Clean.{cleaned, nodeMap, cleanEnd, cleanFit, cleanAnswer, cleaning}
 use Rattle.meaning.specs.Allele.{alleleAnswer, allele}
-use Rattle.meaning.specs.Join.{BatchTables, batchOf, joined, joinEnd, joinAnswer, joining}
+use Rattle.meaning.specs.Join.{BatchTables, batchOf, batchThen, joined, joinEnd, joinFit, joinAnswer, joining}
 use Rattle.meaning.specs.Called.{packed, cleanCall, joinCall}
 use Rattle.meaning.specs.Stored.{number}
 use Rattle.meaning.specs.Files.{found, tablesIn, samplesIn, handed, roomAnswer, reading, laid, written, writeAnswer, writing}
@@ -25,6 +25,7 @@ use Rattle.forest.specs.Mrca.{Mrca}
 use Rattle.forest.specs.Profile.{stands-profile}
 use Rattle.accepted.specs.Refusals.{Accepted, of-done}
 use Rattle.accepted.specs.Records.{Young}
+use Rattle.accepted.specs.Rooms.{block-done}
 use Rattle.accepted.specs.Endings.{clean-done, join-done}
 use Rattle.form.specs.Numbers.{Bytes}
 use Rattle.stored.specs.RoundTrip.{Cells, read-written, written-read}
@@ -197,3 +198,13 @@ pub one-step : (m : Limits) (L : ℕ) (T : Tables) (B : BatchTables) (S last : L
     NotRefused stands m L (cleans S lent ∷ joins B join-tidied join-untouched ∷ []) last lent-tidied lent-untouched T T →
     cleaned stands L (joined L (cleaned stands L T S) B) last ≡ cleaned stands L (joined L T B) last
 one-step m L T B S last lent o p q r y z a = demand-3 m L (cleans S lent ∷ joins B o p ∷ []) last q r T y (z, Prim.tt) a
+
+-- a block of four or more cells changes nothing but itself
+pub clean-block-changes-nothing : (m : Limits) (L : ℕ) (T : Tables) (S : List ℕ) (out : Tables) (outMap : List ℕ) (cells : ℕ) → 4 ≤ cells → cleaning stands m L T S out outMap cells ≡ cleaning stands m L T S out outMap 4
+unfolding cleaning cleanAnswer cleanFit blockThen refuse
+clean-block-changes-nothing m L T S out outMap cells h =
+    ap (λ (a : Answer). cleanEnd (checkAllThen m L T S (fitThen m (cleaned stands L T S) out (refuse (lacks (m .nodes) (outMap ∷ []) (length (nodeMap stands L T S))) 13 6 a))) (cleaned stands L T S) (nodeMap stands L T S) out outMap) (block-done cells h)
+
+pub join-block-changes-nothing : (m : Limits) (L : ℕ) (T : Tables) (B : BatchTables) (out : Tables) (cells : ℕ) → 4 ≤ cells → joining m L T B out cells ≡ joining m L T B out 4
+unfolding joining joinAnswer joinFit blockThen refuse
+join-block-changes-nothing m L T B out cells h = ap (λ (a : Answer). joinEnd (batchThen m L T B (fitThen m (joined L T B) out a)) (joined L T B) out) (block-done cells h)
