@@ -29,7 +29,7 @@ fn refused() -> Seen {
     }
 }
 
-fn seen(r: Tabled) -> Seen {
+fn answered(r: Tabled) -> Seen {
     match r {
         Tabled::Refused(_) => refused(),
         Tabled::Done {
@@ -66,7 +66,7 @@ fn join_columns(
     out_node: &mut [u32],
     out_derived: &mut [u8],
 ) -> Seen {
-    seen(joiner::join(
+    answered(joiner::join(
         cases::get(w, 0),
         cases::column(rec, 0, 0),
         cases::column(rec, 0, 1),
@@ -121,7 +121,7 @@ fn clean_columns(
     out_derived: &mut [u8],
     out_map: &mut [u32],
 ) -> Seen {
-    seen(cleaner::clean(
+    answered(cleaner::clean(
         cases::get(w, 0),
         cases::column(rec, 0, 0),
         cases::column(rec, 0, 1),
