@@ -1,5 +1,5 @@
 -- Wrong cleaners of 01's listing for 501 and 502, each refuted by a theorem of Demands: one that loses a sample, one that alters a time,
--- one that adds a node, one that drops a site, one that writes a map of its own.
+-- one that writes a row twice, one that drops a site, one that writes a map of its own.
 use mathlib.Core.Path.{_≡_, refl, sym, ap}
 use mathlib.Core.Bool.{true, false}
 use mathlib.Core.List.{List, [], _∷_}
