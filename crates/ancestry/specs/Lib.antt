@@ -8,3 +8,5 @@ pub mod Arrivals
 pub mod Stamps
 pub mod Overtaken
 pub mod Births
+pub mod Index
+pub mod Stretch

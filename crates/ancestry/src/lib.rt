@@ -24,6 +24,12 @@ impl ParentColumn {
     pub const NONE: u32 = 4294967295;
 }
 
+// The parent row at a position, or none, and the end of the stretch in which it is so.
+pub struct Stretch {
+    pub parent: u32,
+    pub end: u32,
+}
+
 // Puts one value into each cell.
 fn clear(par: &mut [u32], value: u32)
     ensures { λ _. ⌜ now (par .exit) ≡ replicate (length (now (par .entry))) value ⌝ }
