@@ -1,9 +1,3 @@
 -- Laws that the proofs of this crate's functions share.
 pub mod Filling
 pub mod Marking
-pub mod Listing
-pub mod Taking
-pub mod Standing
-pub mod Stamping
-pub mod Overtaking
-pub mod Ready

@@ -1,18 +1,11 @@
-// The parents of all nodes at a position, marking upwards along them, and 01's rule 10 by rows.
+// The parents of all nodes at a position, and marking upwards along them.
 ghost use mathlib.Core.Path.{_≡_};
 ghost use Prim.Native.Nat.{ℕ, _<_, _≤_};
 ghost use lib.ListN.{length, replicate};
-ghost use Rattle.meaning.specs.Words.{rows, lowest};
-ghost use Rattle.meaning.specs.Rows.{EdgeColumns, MutationColumns, edgeTable, mutationTable, edgesOf};
-ghost use Rattle.meaning.specs.Answer.{limits};
-ghost use Rattle.meaning.specs.Check.{mutationAbove};
-ghost use Rattle.ancestry.specs.Column.{code, parOf, parentRow, Fitting, Rising};
+ghost use Rattle.meaning.specs.Words.{rows};
+ghost use Rattle.meaning.specs.Rows.{EdgeColumns, edgeTable};
+ghost use Rattle.ancestry.specs.Column.{code, parOf, parentRow, Fitting};
 ghost use Rattle.ancestry.specs.Marks.{Markable, MarkedUp};
-ghost use Rattle.ancestry.specs.Arrivals.{Single, Rightwards};
-ghost use Rattle.ancestry.specs.Overtaken.{Lined};
-
-mod arrivals;
-mod stamps;
 
 // A column with a parent row for each node row.
 pub struct ParentColumn {
@@ -80,50 +73,4 @@ pub fn mark_up(time: &[u32], par: &[u32], marks: &mut [u8], u: u32)
     }
     marks[p as usize] = 1;
     mark_up(time, par, marks, p);
-}
-
-// 01's rule 10 by rows: the lowest mutation row whose node is a proper ancestor, at its site's position, of the node of an earlier
-// mutation at that site, or the number of rows. Without two mutations at one site there is nothing to look at.
-pub fn first_above(
-    time: &[u32],
-    left: &[u32],
-    right: &[u32],
-    parent: &[u32],
-    child: &[u32],
-    position: &[u32],
-    site: &[u32],
-    node: &[u32],
-    derived: &[u8],
-) -> usize
-    requires { ⌜
-        (length (now time) ≤ limits .nodes) × (length (now left) ≤ limits .edges) × (length (now position) ≤ limits .sites) × Rising (now time)
-        (edgeTable (now left) (now right) (now parent) (now child)) × Single (now left) (now right) (now child) × Rightwards (now position) × Lined (length (now position)) (length (now time)) (now site) (now node) ⌝ }
-    ensures { λ r. ⌜
-        r
-        ≡ lowest (mutationAbove (edgesOf (λ x. x)
-        (edgeTable (now (left .entry)) (now (right .entry)) (now (parent .entry)) (now (child .entry)))) (now (position .entry)) (λ x. x)
-        (mutationTable (now (site .entry)) (now (node .entry)) (now (derived .entry)))) (length (now (site .entry))) ⌝ }
-{
-    if !stamps::some_pair(site) {
-        return site.len();
-    }
-    let mut first = [0u32; meaning::SiteTable::MOST];
-    let mut next = [0u32; meaning::EdgeTable::MOST];
-    let mut cur = [0u32; meaning::NodeTable::MOST];
-    let mut marks = [0u32; meaning::NodeTable::MOST];
-    arrivals::file_edges(left, position, &mut first, &mut next);
-    stamps::lowest_above(
-        time,
-        left,
-        right,
-        parent,
-        child,
-        position,
-        site,
-        node,
-        &first,
-        &next,
-        &mut cur,
-        &mut marks,
-    )
 }

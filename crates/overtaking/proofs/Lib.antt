@@ -1,0 +1,6 @@
+-- Laws that the proofs of this crate's functions share.
+pub mod Knowing
+pub mod Stamping
+pub mod Overtaking
+pub mod Ready
+pub mod Least
