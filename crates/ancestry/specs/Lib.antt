@@ -10,3 +10,4 @@ pub mod Overtaken
 pub mod Births
 pub mod Index
 pub mod Stretch
+pub mod Holds
