@@ -7,3 +7,6 @@ pub mod Standing
 pub mod Stamping
 pub mod Overtaking
 pub mod Ready
+pub mod Skipping
+pub mod Finding
+pub mod Stretching

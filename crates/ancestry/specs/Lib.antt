@@ -11,3 +11,5 @@ pub mod Births
 pub mod Index
 pub mod Stretch
 pub mod Holds
+pub mod Lookup
+pub mod Decided

@@ -12,6 +12,8 @@ ghost use Rattle.ancestry.specs.Arrivals.{Single, Rightwards};
 ghost use Rattle.ancestry.specs.Overtaken.{Lined};
 
 mod arrivals;
+pub mod index;
+pub mod lookup;
 mod stamps;
 
 // A column with a parent row for each node row.
