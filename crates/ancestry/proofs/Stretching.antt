@@ -3,18 +3,18 @@ use mathlib.Core.Path.{_≡_, refl, sym, ap, subst, _∙_}
 use mathlib.Core.List.{List}
 use mathlib.Core.Option.{Option, none, some}
 use mathlib.Core.Logic.{_⊎_, inl, inr, ⊎-elim}
-use Prim.Native.Nat.{ℕ, zero, suc, _+_, _-_, _<_, _≤_}
+use Prim.Native.Nat.{ℕ, zero, suc, _-_, _<_, _≤_}
 use native.Mathlib.Omega.{arith}
 use lib.ListN.{length}
 use Rattle.meaning.specs.Words.{at}
 use Rattle.meaning.specs.Rows.{EdgeColumns}
 use Rattle.laws.specs.Bools.{eq?, some-inj, none-some}
-use Rattle.ancestry.specs.Column.{no-row, code, parentRow, Even}
+use Rattle.ancestry.specs.Column.{code, parentRow, Even}
 use Rattle.ancestry.specs.Index.{begins, Indexed}
 use Rattle.ancestry.specs.Stretch.{until, stretchAt}
 use Rattle.ancestry.specs.Holds.{until-is}
 use Rattle.ancestry.specs.Decided.{parent-decided, none-decided}
-use Rattle.ancestry.specs.Lookup.{Places, Lefts, After, gapEnd, noneUntil, Linked, Chained, Carried}
+use Rattle.ancestry.specs.Lookup.{Places, Lefts, After, gapEnd, noneUntil, Linked, Carried}
 use Rattle.ancestry.specs.declared.Stretch.{Stretch}
 use Rattle.ancestry.proofs.Finding.{gap-next, gap-over, linked-right, linked-parent}
 

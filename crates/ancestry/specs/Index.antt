@@ -1,5 +1,4 @@
 -- The edges by child, with the end of each child's edges: what a parent is looked up in.
-use mathlib.Core.Path.{_≡_}
 use mathlib.Core.List.{List}
 use Prim.Native.Nat.{ℕ, zero, suc, _<_, _≤_}
 use lib.ListN.{length}

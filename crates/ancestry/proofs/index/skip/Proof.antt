@@ -3,7 +3,6 @@ use Prim.Native.Nat.{_-_}
 use lib.ListN.{length}
 use Rattle.ancestry.specs.Index.{Passed}
 use Rattle.ancestry.proofs.Skipping.{passed-next, skipped-here, skipped-all, cell-above, cell-within}
-use native.Mathlib.Omega.{arith}
 use borrow.Author.Needs.{needs}
 use Rattle.ancestry.proofs.index.skip.Statement.{statement}
 use Rattle.ancestry.proofs.index.skip.Tie as tie

@@ -3,7 +3,6 @@ use Prim.Native.Nat.{_-_, _≤_}
 use Rattle.ancestry.specs.Lookup.{Chained}
 use Rattle.ancestry.proofs.Finding.{chained-one, chained-next, carried-apart, carried-other, carried-all, linked-left, linked-right, linked-parent}
 use native.Mathlib.Omega.{arith}
-use borrow.Author.Needs.{needs}
 use Rattle.ancestry.proofs.lookup.carried_end.Statement.{statement}
 use Rattle.ancestry.proofs.lookup.carried_end.Tie as tie
 

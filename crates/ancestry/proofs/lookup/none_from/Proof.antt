@@ -1,7 +1,6 @@
 -- `none_from` meets its contract.
 use Rattle.ancestry.proofs.Finding.{none-next, none-over}
 use native.Mathlib.Omega.{arith}
-use borrow.Author.Needs.{needs}
 use Rattle.ancestry.proofs.lookup.none_from.Statement.{statement}
 use Rattle.ancestry.proofs.lookup.none_from.Tie as tie
 
