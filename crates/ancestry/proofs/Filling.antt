@@ -4,18 +4,19 @@ use mathlib.Core.Bool.{Bool, true, false}
 use mathlib.Core.List.{List, [], _∷_, _++_}
 use mathlib.Core.Option.{Option, none, some}
 use mathlib.Core.Logic.{_⊎_, inl, inr}
-use Prim.Native.Nat.{ℕ, zero, suc, _+_, _-_, _<_, _≤_}
+use Prim.Native.Nat.{ℕ, zero, suc, _-_, _<_, _≤_}
 use native.Mathlib.Omega.{arith}
 use lib.Dec.{eqb, leb, ltb}
 use lib.ListN.{length, drop, set, replicate, length-set, length-replicate, getD-replicate}
 use lib.Seq.{ext-getD, getD-set-same, getD-set-other}
 use borrow.Author.Tests.{eq-eqb, ne-eqb, le-leb, lt-leb, lt-ltb, le-ltb}
 use Rattle.meaning.specs.Words.{and, at, rows, rowsFrom}
-use Rattle.meaning.specs.Rows.{EdgeColumns, Edge, edgesOf}
+use Rattle.meaning.specs.Rows.{EdgeColumns, edgesOf}
 use Rattle.meaning.specs.Forest.{holds, parentIn}
 use Rattle.laws.specs.Bools.{eq?}
 use Rattle.laws.specs.Counting.{length-rows, get-rows}
 use Rattle.ancestry.specs.Column.{no-row, code, parentRow}
+use Rattle.ancestry.specs.Decided.{rowOf}
 
 -- a column filled up to its end is filled
 pub all-filled : (i v : ℕ) (d : List ℕ) → i ≤ length d → length d ≤ i → replicate i v ++ drop i d ≡ replicate (length d) v
@@ -25,10 +26,6 @@ all-filled (suc i) v [] h l = absurd (omega arith)
 all-filled (suc i) v (x ∷ d) h l = ap (λ (t : List ℕ). v ∷ t) (all-filled i v d (omega arith) (omega arith))
 
 -- ---- the parents by the edge rows from j on
-
--- edge row i as it stands in the columns
-abbrev pub rowOf : EdgeColumns → ℕ → Edge
-rowOf E i = record { left = at (E .left) i; right = at (E .right) i; parent = at (E .parent) i; child = at (E .child) i }
 
 unfoldable pub parentFrom : EdgeColumns → ℕ → ℕ → ℕ → Option ℕ
 unfolding parentIn rowsFrom

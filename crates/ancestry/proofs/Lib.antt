@@ -1,3 +1,6 @@
 -- Laws that the proofs of this crate's functions share.
 pub mod Filling
 pub mod Marking
+pub mod Skipping
+pub mod Finding
+pub mod Stretching

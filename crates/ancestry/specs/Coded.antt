@@ -4,18 +4,18 @@ use mathlib.Core.Bool.{Bool, true, false}
 use mathlib.Core.List.{List, [], _∷_}
 use mathlib.Core.Option.{Option, none, some}
 use mathlib.Core.Logic.{_⊎_, inl, inr, ⊎-elim}
-use Prim.Native.Nat.{ℕ, zero, suc, _+_, _<_, _≤_}
+use Prim.Native.Nat.{ℕ, zero, suc, _<_, _≤_}
 use native.Mathlib.Omega.{arith}
 use lib.Dec.{ltb}
 use lib.ListN.{length, getD, List·getD-eq-default}
-use borrow.Author.Tests.{eq-eqb, ne-eqb, eqb-true, ltb-true, ltb-false}
-use Rattle.meaning.specs.Words.{and, at, rows, rowsFrom}
-use Rattle.meaning.specs.Rows.{EdgeColumns, Edge, edgesOf}
-use Rattle.meaning.specs.Forest.{Par, holds, parentIn}
-use Rattle.laws.specs.Bools.{and-of}
+use borrow.Author.Tests.{eq-eqb, ne-eqb, ltb-true, ltb-false}
+use Rattle.meaning.specs.Words.{at, rows}
+use Rattle.meaning.specs.Rows.{EdgeColumns}
+use Rattle.meaning.specs.Forest.{Par}
 use Rattle.laws.specs.Counting.{length-rows, get-rows}
 use Rattle.ancestry.specs.Column.{no-row, code, parOf, parentRow, Rising}
 use Rattle.ancestry.specs.Marks.{Upward}
+use Rattle.ancestry.specs.Decided.{parent-decided}
 
 -- ---- a cell of the column
 
@@ -77,22 +77,8 @@ module _ (P : Par) (n : ℕ) where
 -- ---- the parents at a position
 
 -- a parent found is that of an edge row
-found-in : (f : ℕ → Edge) (x u p i k : ℕ) → parentIn (rowsFrom f i k) x u ≡ some p → (e : ℕ) × (e < i + k) × (f e .child ≡ u) × (f e .parent ≡ p)
-unfolding parentIn rowsFrom holds
-found-in f x u p i zero h = absurd (let z : _≡_ {A = ℕ} 0 1 = cc in omega arith)
-found-in f x u p i (suc k) h = go (holds x u (f i)) refl (λ m. found-in f x u p (suc i) k m)
-  where
-    go : (t : Bool) → holds x u (f i) ≡ t → (parentIn (rowsFrom f (suc i) k) x u ≡ some p → (e : ℕ) × (e < suc i + k) × (f e .child ≡ u) × (f e .parent ≡ p)) → (e : ℕ) × (e < i + suc k) × (f e .child ≡ u) × (f e .parent ≡ p)
-    go true t ih =
-        let g : some (f i .parent) ≡ some p = rw (t, parentIn) at h in
-        (i, omega arith, eqb-true (f i .child) u (and-of _ _ t .0), cc)
-    go false t ih = let r : _ = ih (rw (t, parentIn) at h) in (r .0, omega (arith, r .1), r .2, r .3)
-
 pub parent-found : (E : EdgeColumns) (x u p : ℕ) → parentRow E x u ≡ some p → (e : ℕ) × (e < length (E .left)) × (at (E .child) e ≡ u) × (at (E .parent) e ≡ p)
-unfolding parentRow edgesOf rows
-parent-found E x u p h =
-    let r : _ = found-in (λ i. record { left = at (E .left) i; right = at (E .right) i; parent = at (E .parent) i; child = at (E .child) i }) x u p 0 (length (E .left)) h in
-    (r .0, omega (arith, r .1), r .2, r .3)
+parent-found E x u p h = let r : _ = parent-decided E x u p h in (r .0, r .1 .row, r .1 .own, r .2)
 
 module _ (time : List ℕ) (E : EdgeColumns) (ok : Rising time E) (x : ℕ) where
   -- child and parent are rows, and the parent is older

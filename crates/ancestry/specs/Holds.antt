@@ -7,7 +7,6 @@ use Prim.Native.Nat.{ℕ, zero, suc, min, _<_, _≤_}
 use native.Mathlib.Omega.{arith}
 use lib.Dec.{leb}
 use borrow.Author.Tests.{eq-eqb, eqb-true, le-leb, leb-true}
-use Rattle.meaning.specs.Words.{and, lowest}
 use Rattle.meaning.specs.Rows.{EdgeColumns}
 use Rattle.meaning.specs.Forest.{near}
 use Rattle.laws.specs.Bools.{clash, truth, eq?, and-of, and-yes, not-of, not-true}

@@ -1,5 +1,4 @@
 -- The edges by child, with the end of each child's edges: what a parent is looked up in.
-use mathlib.Core.Path.{_≡_}
 use mathlib.Core.List.{List}
 use Prim.Native.Nat.{ℕ, zero, suc, _<_, _≤_}
 use lib.ListN.{length}
@@ -30,3 +29,26 @@ pub record Indexed (E : EdgeColumns) (L : ℕ) (by closed : List ℕ) : Type 0 w
   pub whole : Whole E L
   pub order : ByChild E by
   pub ends : Ends (E .child) by closed
+
+-- ---- while the ends are filled in
+
+-- the places go by child, and each names a row
+pub record Grouped (child by : List ℕ) : Type 0 where
+  pub row : (p : ℕ) → p < length by → at by p < length child
+  pub rise : (p q : ℕ) → p ≤ q → q < length by → at child (at by p) ≤ at child (at by q)
+
+-- every edge before place i is of row u or of a lower row
+pub record Passed (child by : List ℕ) (u i : ℕ) : Type 0 where
+  pub inside : i ≤ length by
+  pub within : (p : ℕ) → p < i → at child (at by p) ≤ u
+
+-- and every edge from i on is of a higher row
+pub record Skipped (child by : List ℕ) (u i : ℕ) : Type 0 where
+  pub passed : Passed child by u i
+  pub past : (p : ℕ) → i ≤ p → p < length by → u < at child (at by p)
+
+-- the ends of the first k rows stand in their cells, and i is that of the last of them
+pub record Ending (child by : List ℕ) (k i : ℕ) (closed : List ℕ) : Type 0 where
+  pub inside : i ≤ length by
+  pub below : (p : ℕ) → p < i → at child (at by p) < k
+  pub cell : (u : ℕ) → u < k → Skipped child by u (at closed u)

@@ -7,3 +7,5 @@ pub mod Coded
 pub mod Index
 pub mod Stretch
 pub mod Holds
+pub mod Lookup
+pub mod Decided

@@ -7,6 +7,9 @@ ghost use Rattle.meaning.specs.Rows.{EdgeColumns, edgeTable};
 ghost use Rattle.ancestry.specs.Column.{code, parOf, parentRow, Fitting};
 ghost use Rattle.ancestry.specs.Marks.{Markable, MarkedUp};
 
+pub mod index; // the end of each row's edges among the edges by child
+pub mod lookup; // a row's parent at a position, and how far it holds
+
 // A column with a parent row for each node row.
 pub struct ParentColumn {
     pub rows: usize,

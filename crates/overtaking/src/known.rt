@@ -32,7 +32,7 @@ pub fn parent_kept(
     if x < until[i] {
         return par[i];
     }
-    let s = crate::standin::parent_from(len, left, right, parent, child, by_child, ends, x, u);
+    let s = ancestry::lookup::parent_from(len, left, right, parent, child, by_child, ends, x, u);
     par[i] = s.parent;
     until[i] = s.end;
     s.parent

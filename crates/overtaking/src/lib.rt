@@ -13,7 +13,6 @@ ghost use Rattle.overtaking.specs.Overtaken.{Rightwards, Lined, overtake
 use meaning::NodeTable;
 
 mod known; // answers of the lookup, kept
-mod standin;
 mod stamps; // stamping upwards, one mutation after another
 
 // 01's rule 10 by rows: the lowest mutation row whose node is a proper ancestor, at its site's position, of the node of an earlier
@@ -49,7 +48,7 @@ pub fn first_above(
     let mut par = [0u32; NodeTable::MOST];
     let mut until = [0u32; NodeTable::MOST];
     let mut marks = [0u32; NodeTable::MOST];
-    standin::fill_ends(left, right, parent, child, by_child, &mut ends);
+    ancestry::index::fill_ends(left, right, parent, child, by_child, &mut ends);
     stamps::lowest_above(
         len,
         time,
@@ -96,7 +95,7 @@ pub fn least_row_above(
     let mut par = [0u32; NodeTable::MOST];
     let mut until = [0u32; NodeTable::MOST];
     let mut marks = [0u32; NodeTable::MOST];
-    standin::fill_ends(left, right, parent, child, by_child, &mut ends);
+    ancestry::index::fill_ends(left, right, parent, child, by_child, &mut ends);
     stamps::least_above(
         len,
         time,
