@@ -16,7 +16,9 @@ use Rattle.bridge.specs.Columns.{Apart}
 use Rattle.ancestry.specs.Column.{Rising}
 use Rattle.ancestry.specs.Arrivals.{Holding, Single, Rightwards}
 use Rattle.ancestry.specs.Overtaken.{Lined}
+use Rattle.ancestry.specs.Index.{Whole}
 use Rattle.rules.specs.Asked.{EvenEdges, NamedNodes}
+use Rattle.rules.specs.Lined.{Somewhere}
 
 -- 5: the rows named exist, the edge holds somewhere and not past the chromosome, and the parent is older
 pub record EdgeWhole (L : ℕ) (time : List ℕ) (E : EdgeColumns) (i : ℕ) : Type 0 where
@@ -66,6 +68,14 @@ module _ (L : ℕ) (time : List ℕ) (E : EdgeColumns) (e : EvenEdges E) (h : (i
     child-row = λ i l. edge-whole L time E i (h i l) .child-row;
     age = λ i l. edge-whole L time E i (h i l) .age;
   }
+
+  -- rule 7: every edge holds somewhere
+  pub somewhere : Somewhere E
+  somewhere = record { held = λ i l. edge-whole L time E i (h i l) .holds }
+
+  -- rule 10: and not past the chromosome
+  pub whole : Whole E L
+  whole = record { held = λ i l. edge-whole L time E i (h i l) .holds; inside = λ i l. edge-whole L time E i (h i l) .inside }
 
 -- 9: the rows named exist, and the site row is not below that of the row before
 module _ (sites nodes : ℕ) (M : MutationColumns) (i : ℕ) (h : mutationBroken sites nodes M i ≡ false) where
