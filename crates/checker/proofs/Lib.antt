@@ -2,6 +2,7 @@
 pub mod Order
 pub mod Rows
 pub mod After
+pub mod Handing
 pub mod Sound
 pub mod Whole
 pub mod Sites

@@ -14,9 +14,10 @@ use Rattle.laws.specs.Bools.{clash, or-no, and-yes}
 use Rattle.laws.specs.Counting.{of-below}
 use Rattle.bridge.specs.Columns.{Apart}
 use Rattle.ancestry.specs.Column.{Rising}
-use Rattle.ancestry.specs.Arrivals.{Holding, Single, Rightwards}
-use Rattle.ancestry.specs.Overtaken.{Lined}
+use Rattle.overtaking.specs.Overtaken.{Rightwards, Lined}
+use Rattle.ancestry.specs.Index.{Whole}
 use Rattle.rules.specs.Asked.{EvenEdges, NamedNodes}
+use Rattle.rules.specs.Lined.{Somewhere}
 
 -- 5: the rows named exist, the edge holds somewhere and not past the chromosome, and the parent is older
 pub record EdgeWhole (L : ℕ) (time : List ℕ) (E : EdgeColumns) (i : ℕ) : Type 0 where
@@ -67,6 +68,14 @@ module _ (L : ℕ) (time : List ℕ) (E : EdgeColumns) (e : EvenEdges E) (h : (i
     age = λ i l. edge-whole L time E i (h i l) .age;
   }
 
+  -- rule 7: every edge holds somewhere
+  pub somewhere : Somewhere E
+  somewhere = record { held = λ i l. edge-whole L time E i (h i l) .holds }
+
+  -- rule 10: and not past the chromosome
+  pub whole : Whole E L
+  whole = record { held = λ i l. edge-whole L time E i (h i l) .holds; inside = λ i l. edge-whole L time E i (h i l) .inside }
+
 -- 9: the rows named exist, and the site row is not below that of the row before
 module _ (sites nodes : ℕ) (M : MutationColumns) (i : ℕ) (h : mutationBroken sites nodes M i ≡ false) where
   mutation-parts : (leb sites (at (M .site) i) ≡ false) × (leb nodes (at (M .node) i) ≡ false) × (falls (M .site) i ≡ false)
@@ -95,23 +104,6 @@ apart l h i j a b e = go (ltb i j) refl (ltb j i) refl
     go true p u q = absurd (clash (of-below (λ k. eqb (at l k) (at l j)) j i (ltb-true i j p) (eq-eqb _ _ e)) (h j b))
     go false p true q = absurd (clash (of-below (λ k. eqb (at l k) (at l i)) i j (ltb-true j i q) (eq-eqb _ _ (sym e))) (h i a))
     go false p false q = omega (arith, ltb-false i j p, ltb-false j i q)
-
--- rule 10: two edges of one child never hold at one position
-pub single : (E : EdgeColumns) → ((i : ℕ) → i < length (E .left) → edgeShared E i ≡ false) → Single (E .left) (E .right) (E .child)
-unfolding edgeShared share
-single E h = record { one = λ e f x a b q m n. go e f x a b q m n (ltb e f) refl (ltb f e) refl }
-  where
-    meet : (e f x : ℕ) → at (E .child) e ≡ at (E .child) f → Holding (E .left) (E .right) x e → Holding (E .left) (E .right) x f → share E e f ≡ true
-    meet e f x q m n = and-yes
-        (eq-eqb (at (E .child) e) (at (E .child) f) q)
-        (and-yes
-        (lt-ltb (at (E .left) e) (at (E .right) f) (omega (arith, m .begun, n .lasts)))
-        (lt-ltb (at (E .left) f) (at (E .right) e) (omega (arith, n .begun, m .lasts))))
-
-    go : (e f x : ℕ) → e < length (E .left) → f < length (E .left) → at (E .child) e ≡ at (E .child) f → Holding (E .left) (E .right) x e → Holding (E .left) (E .right) x f → (t : Bool) → ltb e f ≡ t → (u : Bool) → ltb f e ≡ u → e ≡ f
-    go e f x a b q m n true y u z = absurd (clash (of-below (λ j. share E j f) f e (ltb-true e f y) (meet e f x q m n)) (h f b))
-    go e f x a b q m n false y true z = absurd (clash (of-below (λ j. share E j e) e f (ltb-true f e z) (meet f e x (sym q) n m)) (h e a))
-    go e f x a b q m n false y false z = omega (arith, ltb-false e f y, ltb-false f e z)
 
 -- rule 10: the positions of the sites rise
 pub rightwards : (L : ℕ) (position : List ℕ) → ((i : ℕ) → i < length position → siteBroken L position i ≡ false) → Rightwards position

@@ -9,8 +9,8 @@ use Rattle.meaning.specs.Rows.{Tables, edgesOf}
 use Rattle.meaning.specs.Answer.{Answer, answer, done, refuseRow}
 use Rattle.meaning.specs.Check.{siteBroken, mutationBroken, mutationAbove, siteRules}
 use Rattle.ancestry.specs.Column.{Rising}
-use Rattle.ancestry.specs.Overtaken.{Lined}
-use Rattle.ancestry.specs.Births.{first-above-births}
+use Rattle.overtaking.specs.Overtaken.{Lined}
+use Rattle.overtaking.specs.Births.{first-above-births}
 use Rattle.checker.specs.Found.{Shaped, TreeSound}
 use Rattle.checker.proofs.Order.{row-found, row-none, none-found}
 use Rattle.checker.proofs.Rows.{rising, lined, apart}

@@ -8,7 +8,10 @@ use Rattle.meaning.specs.Words.{at}
 use Rattle.meaning.specs.Rows.{NodeColumns, EdgeColumns, Tables, edgesOf}
 use Rattle.meaning.specs.Answer.{Limits}
 use Rattle.meaning.specs.Check.{repeated, edgeBroken, edgeUnordered, edgeShared, siteBroken, mutationBroken, mutationAbove, sampleUnknown, lengthBroken}
+use Rattle.meaning.specs.declared.Checked.{Checked}
+use Rattle.meaning.specs.declared.Checked.the-variants.{Sound}
 use Rattle.rules.specs.Asked.{EvenEdges}
+use Rattle.rules.specs.ByChild.{ByChild}
 
 -- 1: the columns of each table are equally long
 pub record Shaped (T : Tables) : Type 0 where
@@ -50,3 +53,7 @@ pub record TablesSound (m : Limits) (L : ℕ) (T : Tables) : Type 0 where
 pub record SamplesSound (birth S : List ℕ) : Type 0 where
   pub known : (i : ℕ) → i < length S → sampleUnknown birth S i ≡ false
   pub once : (i : ℕ) → i < length S → repeated S i ≡ false
+
+-- the edges by child, which rule 7 leaves where the answer r is no refusal
+pub record Ordered (r : Checked) (E : EdgeColumns) (by : List ℕ) : Type 0 where
+  pub order : r ≡ Sound → ByChild E by

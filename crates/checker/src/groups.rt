@@ -6,7 +6,8 @@ ghost use Rattle.meaning.specs.Rows.{nodeTable, edgeTable, siteTable, mutationT
 ghost use Rattle.meaning.specs.Answer.{done, limits, checkedOf};
 ghost use Rattle.meaning.specs.Check.{treeRules, siteRules, sampleRules};
 ghost use Rattle.rules.specs.Asked.{EvenEdges};
-ghost use Rattle.checker.specs.Found.{Shaped, Sized, TreeSound};
+ghost use Rattle.rules.specs.ByChild.{ByChild};
+ghost use Rattle.checker.specs.Found.{Shaped, Sized, TreeSound, Ordered};
 ghost use Rattle.rules.specs.Lengths.{raggedTable, largeTable, refuseTable};
 use meaning::Checked;
 use meaning::Refusal;
@@ -50,7 +51,7 @@ pub fn lengths_checked(
     Checked::Sound
 }
 
-// 4 to 7.
+// 4 to 7; by_child is left with the edges by child.
 pub fn tree_checked(
     len: u32,
     time: &[u32],
@@ -59,13 +60,18 @@ pub fn tree_checked(
     right: &[u32],
     parent: &[u32],
     child: &[u32],
+    by_child: &mut [u32],
 ) -> Checked
-    requires { ⌜ (length (now birth) ≡ length (now time)) × EvenEdges (edgeTable (now left) (now right) (now parent) (now child)) ⌝ }
+    requires { ⌜
+        (length (now birth) ≡ length (now time)) × EvenEdges
+        (edgeTable (now left) (now right) (now parent) (now child)) × (length (now «by_child»)
+        ≡ length (now left)) × (length (now left) ≤ limits .edges) ⌝ }
     ensures { λ r. ⌜
-        checkedOf r
+        (checkedOf r
         ≡ treeRules len
         (nodeTable (now (time .entry)) (now (birth .entry)))
-        (edgeTable (now (left .entry)) (now (right .entry)) (now (parent .entry)) (now (child .entry))) done ⌝ }
+        (edgeTable (now (left .entry)) (now (right .entry)) (now (parent .entry)) (now (child .entry))) done) × Ordered r
+        (edgeTable (now (left .entry)) (now (right .entry)) (now (parent .entry)) (now (child .entry))) (now («by_child» .exit)) ⌝ }
 {
     let b = rules::columns::first_repeated(birth);
     if b < birth.len() {
@@ -79,14 +85,14 @@ pub fn tree_checked(
     if k < left.len() {
         return Checked::Refused(Refusal::EdgeOrder(k));
     }
-    let s = rules::edges::first_shared(left, right, parent, child);
+    let s = rules::edges::first_shared(left, right, parent, child, by_child);
     if s < left.len() {
         return Checked::Refused(Refusal::EdgeShared(s));
     }
     Checked::Sound
 }
 
-// 8 to 10, of tables whose trees are sound.
+// 8 to 10, of tables whose trees are sound, with the edges by child.
 pub fn sites_checked(
     len: u32,
     time: &[u32],
@@ -95,6 +101,7 @@ pub fn sites_checked(
     right: &[u32],
     parent: &[u32],
     child: &[u32],
+    by_child: &[u32],
     position: &[u32],
     ancestral: &[u8],
     site: &[u32],
@@ -114,7 +121,8 @@ pub fn sites_checked(
         (siteTable (now position) (now ancestral))
         (mutationTable (now site) (now node) (now derived))) × TreeSound len
         (nodeTable (now time) (now birth))
-        (edgeTable (now left) (now right) (now parent) (now child)) ⌝ }
+        (edgeTable (now left) (now right) (now parent) (now child)) × ByChild
+        (edgeTable (now left) (now right) (now parent) (now child)) (now «by_child») ⌝ }
     ensures { λ r. ⌜
         checkedOf r
         ≡ siteRules len
@@ -138,12 +146,14 @@ pub fn sites_checked(
     if m < site.len() {
         return Checked::Refused(Refusal::MutationBroken(m));
     }
-    let a = ancestry::first_above(
+    let a = overtaking::first_above(
+        len,
         time,
         left,
         right,
         parent,
         child,
+        by_child,
         position,
         site,
         node,

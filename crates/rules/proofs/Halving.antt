@@ -36,7 +36,3 @@ module _ (f : ℕ → Bool) (n : ℕ) where
 
   pub halved-up : (m high : ℕ) → m < high → high ≤ n → anyBelow f (m + 1) ≡ false → m + 1 ≤ lowest f n
   halved-up m high h k e = lowest-above (m + 1) (omega arith) e
-
--- where no row below n passes, each of them does not
-pub below-no : (f : ℕ → Bool) (n : ℕ) → anyBelow f n ≡ false → (x : ℕ) → x < n → f x ≡ false
-below-no f n e x l = not-true (f x) (λ h. clash (of-below f n x l h) e)

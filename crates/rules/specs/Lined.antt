@@ -3,7 +3,7 @@ use mathlib.Core.Path.{_≡_}
 use mathlib.Core.Bool.{Bool, true}
 use mathlib.Core.List.{List}
 use Prim.Native.Nat.{ℕ, _<_, _≤_}
-use lib.Dec.{eqb, leb}
+use lib.Dec.{eqb}
 use lib.ListN.{length}
 use Rattle.meaning.specs.Words.{at}
 use Rattle.meaning.specs.Rows.{EdgeColumns}
@@ -27,10 +27,10 @@ pub record Next (idx : List ℕ) (k i r : ℕ) : Type 0 where
 abbrev pub twins : List ℕ → ℕ → ℕ → Bool
 twins l j i = eqb (at l j) (at l i)
 
--- edge i holds nowhere
-abbrev pub holdsNowhere : EdgeColumns → ℕ → Bool
-holdsNowhere E i = leb (at (E .right) i) (at (E .left) i)
-
 -- every edge holds somewhere
 pub record Somewhere (E : EdgeColumns) : Type 0 where
   pub held : (i : ℕ) → i < length (E .left) → at (E .left) i < at (E .right) i
+
+-- the edges stand by child, and of one child by left
+pub record Ascending (E : EdgeColumns) (idx : List ℕ) : Type 0 where
+  pub rise : (p q : ℕ) → p < q → q < length idx → (at (E .child) (at idx p) ≤ at (E .child) (at idx q)) × (at (E .child) (at idx p) ≡ at (E .child) (at idx q) → at (E .left) (at idx p) ≤ at (E .left) (at idx q))

@@ -1,13 +1,14 @@
 // Rules of the edges: rows that exist and times that rise, key order, shared positions.
-use meaning::EdgeTable;
 ghost use mathlib.Core.Path.{_≡_};
 ghost use mathlib.Core.List.{[], _∷_};
-ghost use Prim.Native.Nat.{_<_};
+ghost use Prim.Native.Nat.{_<_, _≤_};
 ghost use lib.ListN.{length};
 ghost use Rattle.meaning.specs.Words.{lowest, lex};
 ghost use Rattle.meaning.specs.Rows.{nodeTable, edgeTable};
 ghost use Rattle.meaning.specs.Check.{edgeBroken, edgeUnordered, edgeShared, keyOf};
 ghost use Rattle.rules.specs.Asked.{EvenEdges, NamedNodes};
+ghost use Rattle.rules.specs.Lined.{Somewhere};
+ghost use Rattle.rules.specs.ByChild.{ByChild};
 
 // Whether edge i names a row that does not exist, holds nowhere or past the chromosome, or has a parent that is not older.
 fn edge_broken_at(
@@ -158,18 +159,25 @@ pub fn first_unordered(
     left.len()
 }
 
-// 7: the lowest edge that shares a position with an earlier edge of the same child.
-pub fn first_shared(left: &[u32], right: &[u32], parent: &[u32], child: &[u32]) -> usize
-    requires { ⌜ EvenEdges (edgeTable (now left) (now right) (now parent) (now child)) ⌝ }
-    ensures { λ r. ⌜ r ≡ lowest (edgeShared (edgeTable (now (left .entry)) (now (right .entry)) (now (parent .entry)) (now (child .entry)))) (length (now (left .entry))) ⌝ }
+// 7: the lowest edge that shares a position with an earlier edge of the same child; by_child is left with the edges by child, for later rules.
+pub fn first_shared(
+    left: &[u32],
+    right: &[u32],
+    parent: &[u32],
+    child: &[u32],
+    by_child: &mut [u32],
+) -> usize
+    requires { ⌜
+        EvenEdges
+        (edgeTable (now left) (now right) (now parent) (now child)) × Somewhere
+        (edgeTable (now left) (now right) (now parent) (now child)) × (length (now «by_child»)
+        ≡ length (now left)) × (length (now left) ≤ 4294967296) ⌝ }
+    ensures { λ r. ⌜
+        (r
+        ≡ lowest (edgeShared
+        (edgeTable (now (left .entry)) (now (right .entry)) (now (parent .entry)) (now (child .entry)))) (length (now (left .entry)))) × (length (now (left .entry)) ≤ r → ByChild
+        (edgeTable (now (left .entry)) (now (right .entry)) (now (parent .entry)) (now (child .entry))) (now («by_child» .exit))) ⌝ }
 {
-    let n = left.len();
-    if EdgeTable::MOST < n {
-        return crate::shared::first_by_pairs(left, right, parent, child);
-    }
-    if crate::shared::some_nowhere(left, right, parent, child) {
-        return crate::shared::first_by_pairs(left, right, parent, child);
-    }
-    let mut idx = [0u32; EdgeTable::MOST];
-    crate::shared::first_by_order(left, right, parent, child, &mut idx[..n])
+    crate::shared::line_up(left, right, parent, child, by_child);
+    crate::shared::first_lined(left, right, parent, child, by_child)
 }

@@ -1,13 +1,15 @@
 // Rule 7: the lowest edge that shares a position with an earlier edge of its child, in n log n steps.
 // The edges are sorted by (child, left) once; then the bound below which some edge shares is found by halving.
 ghost use mathlib.Core.Path.{_≡_};
-ghost use Prim.Native.Nat.{_<_, _≤_};
+ghost use mathlib.Core.Bool.{false};
+ghost use Prim.Native.Nat.{ℕ, _<_, _≤_};
 ghost use lib.ListN.{length};
 ghost use Rattle.meaning.specs.Words.{lowest, anyBelow};
 ghost use Rattle.meaning.specs.Rows.{edgeTable};
 ghost use Rattle.meaning.specs.Check.{share, edgeShared};
 ghost use Rattle.rules.specs.Asked.{EvenEdges};
-ghost use Rattle.rules.specs.Lined.{Lined, Somewhere, holdsNowhere};
+ghost use Rattle.rules.specs.Lined.{Lined, Somewhere, Ascending};
+ghost use Rattle.rules.specs.ByChild.{ByChild};
 
 // Whether edges j and i have one child and share a position.
 fn shares(left: &[u32], right: &[u32], parent: &[u32], child: &[u32], j: usize, i: usize) -> bool
@@ -53,7 +55,7 @@ fn some_shared(
 }
 
 // The lowest edge that shares a position with an earlier one, by halving the range in which it lies.
-fn first_lined(left: &[u32], right: &[u32], parent: &[u32], child: &[u32], idx: &[u32]) -> usize
+pub fn first_lined(left: &[u32], right: &[u32], parent: &[u32], child: &[u32], idx: &[u32]) -> usize
     requires { ⌜ EvenEdges (edgeTable (now left) (now right) (now parent) (now child)) × Lined (share (edgeTable (now left) (now right) (now parent) (now child))) (length (now left)) (now idx) ⌝ }
     ensures { λ r. ⌜ r ≡ lowest (edgeShared (edgeTable (now (left .entry)) (now (right .entry)) (now (parent .entry)) (now (child .entry)))) (length (now (left .entry))) ⌝ }
 {
@@ -74,78 +76,30 @@ fn first_lined(left: &[u32], right: &[u32], parent: &[u32], child: &[u32], idx: 
 }
 
 // Sorts the edges by (child, left); each of them holds somewhere.
-fn line_up(left: &[u32], right: &[u32], parent: &[u32], child: &[u32], idx: &mut [u32])
+pub fn line_up(left: &[u32], right: &[u32], parent: &[u32], child: &[u32], idx: &mut [u32])
     requires { ⌜
         EvenEdges
         (edgeTable (now left) (now right) (now parent) (now child)) × Somewhere
         (edgeTable (now left) (now right) (now parent) (now child)) × (length (now idx)
         ≡ length (now left)) × (length (now left) ≤ 4294967296) ⌝ }
-    ensures { λ _. ⌜ Lined (share (edgeTable (now (left .entry)) (now (right .entry)) (now (parent .entry)) (now (child .entry)))) (length (now (left .entry))) (now (idx .exit)) ⌝ }
+    ensures { λ _. ⌜
+        Lined (share
+        (edgeTable (now (left .entry)) (now (right .entry)) (now (parent .entry)) (now (child .entry)))) (length (now (left .entry))) (now (idx .exit)) × Ascending
+        (edgeTable (now (left .entry)) (now (right .entry)) (now (parent .entry)) (now (child .entry))) (now (idx .exit)) ⌝ }
 {
     order::iota(idx);
     order::sort_rows(child, left, left, left, idx);
 }
 
-// The lowest edge that shares a position with an earlier one; idx is a working column with a cell for each edge.
-pub fn first_by_order(
-    left: &[u32],
-    right: &[u32],
-    parent: &[u32],
-    child: &[u32],
-    idx: &mut [u32],
-) -> usize
+// The edges by child, of edges that rule 7 has passed.
+pub fn by_child(left: &[u32], right: &[u32], parent: &[u32], child: &[u32], idx: &mut [u32])
     requires { ⌜
         EvenEdges
         (edgeTable (now left) (now right) (now parent) (now child)) × Somewhere
         (edgeTable (now left) (now right) (now parent) (now child)) × (length (now idx)
-        ≡ length (now left)) × (length (now left) ≤ 4294967296) ⌝ }
-    ensures { λ r. ⌜ r ≡ lowest (edgeShared (edgeTable (now (left .entry)) (now (right .entry)) (now (parent .entry)) (now (child .entry)))) (length (now (left .entry))) ⌝ }
+        ≡ length (now left)) × (length (now left) ≤ 4294967296) × ((i : ℕ) → i < length (now left) → edgeShared
+        (edgeTable (now left) (now right) (now parent) (now child)) i ≡ false) ⌝ }
+    ensures { λ _. ⌜ ByChild (edgeTable (now (left .entry)) (now (right .entry)) (now (parent .entry)) (now (child .entry))) (now (idx .exit)) ⌝ }
 {
     line_up(left, right, parent, child, idx);
-    first_lined(left, right, parent, child, idx)
-}
-
-// Whether some edge holds nowhere.
-pub fn some_nowhere(left: &[u32], right: &[u32], parent: &[u32], child: &[u32]) -> bool
-    requires { ⌜ EvenEdges (edgeTable (now left) (now right) (now parent) (now child)) ⌝ }
-    ensures { λ r. ⌜ r ≡ anyBelow (holdsNowhere (edgeTable (now (left .entry)) (now (right .entry)) (now (parent .entry)) (now (child .entry)))) (length (now (left .entry))) ⌝ }
-{
-    let mut j = left.len();
-    while 0 < j {
-        j -= 1;
-        if right[j] <= left[j] {
-            return true;
-        }
-    }
-    false
-}
-
-// Whether an earlier edge of the same child shares a position with edge i.
-fn shared_at(left: &[u32], right: &[u32], parent: &[u32], child: &[u32], i: usize) -> bool
-    requires { ⌜ (i < length (now left)) × EvenEdges (edgeTable (now left) (now right) (now parent) (now child)) ⌝ }
-    ensures { λ r. ⌜ r ≡ edgeShared (edgeTable (now (left .entry)) (now (right .entry)) (now (parent .entry)) (now (child .entry))) i ⌝ }
-{
-    let mut j = i;
-    while 0 < j {
-        j -= 1;
-        if shares(left, right, parent, child, j, i) {
-            return true;
-        }
-    }
-    false
-}
-
-// The lowest such edge by comparing edges in pairs, for columns that an earlier rule refuses: too long, or with an edge that holds nowhere.
-pub fn first_by_pairs(left: &[u32], right: &[u32], parent: &[u32], child: &[u32]) -> usize
-    requires { ⌜ EvenEdges (edgeTable (now left) (now right) (now parent) (now child)) ⌝ }
-    ensures { λ r. ⌜ r ≡ lowest (edgeShared (edgeTable (now (left .entry)) (now (right .entry)) (now (parent .entry)) (now (child .entry)))) (length (now (left .entry))) ⌝ }
-{
-    let mut i = 0;
-    while i < left.len() {
-        if shared_at(left, right, parent, child, i) {
-            return i;
-        }
-        i += 1;
-    }
-    left.len()
 }

@@ -1,34 +1,16 @@
--- `check_tables` meets its contract: 1 and 2, then 3 to 10.
-use Rattle.checker.proofs.Whole.{lengths-found, table-refused, rules-last}
+-- `check_tables` meets its contract: the column of edges by child stands on the stack.
 use borrow.Author.Needs.{needs}
 use Rattle.checker.proofs.check_tables.Statement.{statement}
 use Rattle.checker.proofs.check_tables.Tie as tie
 
-lengths-checked-requires : tie.Need-lengths-checked-requires
-lengths-checked-requires c κs = search needs
+slice-aggregate-check-lent : tie.Need-slice-aggregate-check-lent
+slice-aggregate-check-lent c = search needs
 
-enum-told : tie.Need-enum-told
-enum-told c = search needs
-
-enum-told-2 : tie.Need-enum-told-2
-enum-told-2 c = search needs
-
-rules-checked-requires : tie.Need-rules-checked-requires
-rules-checked-requires c κs = let f : _ = lengths-found _ _ _ (c .before .before .lengths-checked .ensures) (c .enum-told2 .given .1) in (f .0, f .1)
+check-lent-requires : tie.Need-check-lent-requires
+check-lent-requires c κs = search needs
 
 returns : tie.Need-returns
-returns c = table-refused _ _ _ _ (c .before .before .lengths-checked .ensures) _ (c .enum-told .given .1)
-
-returns-2 : tie.Need-returns-2
-returns-2 c = rules-last _ _ _ _ (c .before .before .before .lengths-checked .ensures) (c .before .enum-told2 .given .1) (c .rules-checked .result) (c .rules-checked .ensures)
+returns c = c .before .check-lent .ensures .0
 
 pub check-tables-spec : {M : Type 1} → statement M
-check-tables-spec =
-    tie.close
-    (tie.spec
-    lengths-checked-requires
-    enum-told
-    enum-told-2
-    rules-checked-requires
-    returns
-    returns-2)
+check-tables-spec = tie.close (tie.spec slice-aggregate-check-lent check-lent-requires returns)

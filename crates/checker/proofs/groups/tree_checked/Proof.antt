@@ -1,8 +1,10 @@
--- `tree_checked` meets its contract: each way out is one rule, and rule 6 is asked of rows that rule 5 has passed.
-use mathlib.Core.Path.{sym, _∙_}
+-- `tree_checked` meets its contract: each way out is one rule, and rules 6 and 7 are asked of rows that rule 5 has passed.
+use mathlib.Core.Path.{refl, sym, _∙_}
 use Rattle.meaning.specs.Check.{treeRules}
 use Rattle.checker.proofs.Order.{row-found, row-none, none-found}
-use Rattle.checker.proofs.Rows.{named}
+use Rattle.checker.proofs.Rows.{named, somewhere}
+use Rattle.checker.proofs.Handing.{refusal-hands, order-hands}
+use native.Mathlib.Omega.{arith}
 use borrow.Author.Needs.{needs}
 use Rattle.checker.proofs.groups.tree_checked.Statement.{statement}
 use Rattle.checker.proofs.groups.tree_checked.Tie as tie
@@ -12,32 +14,38 @@ first-repeated-requires c κs = search needs
 
 returns : tie.Need-returns
 unfolding treeRules
-returns c = sym (row-found _ _ _ _ _ (c .before .first-repeated .ensures) (c .if1 .taken))
+returns c = (sym (row-found _ _ _ _ _ (c .before .first-repeated .ensures) (c .if1 .taken)), refusal-hands _ _ _ _ refl)
 
 first-broken-edge-requires : tie.Need-first-broken-edge-requires
-first-broken-edge-requires c κs = c .before .before .before .before .before .before .before .before .pre .1
+first-broken-edge-requires c κs = c .before .before .before .before .before .before .before .before .before .pre .1
 
 returns-2 : tie.Need-returns-2
 unfolding treeRules
-returns-2 c = sym (row-none _ _ _ _ _ (c .before .before .before .first-repeated .ensures) (c .before .before .if1 .left) ∙ row-found _ _ _ _ _ (c .before .first-broken-edge .ensures) (c .if2 .taken))
+returns-2 c = (sym (row-none _ _ _ _ _ (c .before .before .before .first-repeated .ensures) (c .before .before .if1 .left) ∙ row-found _ _ _ _ _ (c .before .first-broken-edge .ensures) (c .if2 .taken)), refusal-hands _ _ _ _ refl)
 
 first-unordered-requires : tie.Need-first-unordered-requires
-first-unordered-requires c κs = named _ _ _ (c .before .before .before .before .before .before .before .before .before .before .pre .1) (none-found _ _ _ (c .before .first-broken-edge .ensures) (c .if2 .left)) _ (c .before .before .before .before .before .before .before .before .before .before .pre .0)
+first-unordered-requires c κs = named _ _ _ (c .before .before .before .before .before .before .before .before .before .before .before .pre .1) (none-found _ _ _ (c .before .first-broken-edge .ensures) (c .if2 .left)) _ (c .before .before .before .before .before .before .before .before .before .before .before .pre .0)
 
 returns-3 : tie.Need-returns-3
 unfolding treeRules
-returns-3 c = sym (row-none _ _ _ _ _ (c .before .before .before .before .before .first-repeated .ensures) (c .before .before .before .before .if1 .left) ∙ row-none _ _ _ _ _ (c .before .before .before .first-broken-edge .ensures) (c .before .before .if2 .left) ∙ row-found _ _ _ _ _ (c .before .first-unordered .ensures) (c .if3 .taken))
+returns-3 c = (sym (row-none _ _ _ _ _ (c .before .before .before .before .before .first-repeated .ensures) (c .before .before .before .before .if1 .left) ∙ row-none _ _ _ _ _ (c .before .before .before .first-broken-edge .ensures) (c .before .before .if2 .left) ∙ row-found _ _ _ _ _ (c .before .first-unordered .ensures) (c .if3 .taken)), refusal-hands _ _ _ _ refl)
 
 first-shared-requires : tie.Need-first-shared-requires
-first-shared-requires c κs = c .before .before .before .before .before .before .before .before .before .before .before .before .pre .1
+first-shared-requires c κs = (c .before .before .before .before .before .before .before .before .before .before .before .before .before .before .pre .1, somewhere _ _ _ (c .before .before .before .before .before .before .before .before .before .before .before .before .before .before .pre .1) (none-found _ _ _ (c .before .before .before .before .first-broken-edge .ensures) (c .before .before .before .if2 .left)), c .before .before .before .before .before .before .before .before .before .before .before .before .before .before .pre .2, omega (arith, c .before .before .before .before .before .before .before .before .before .before .before .before .before .before .pre .3))
+
+same-length : tie.Need-same-length
+same-length c = search needs
 
 returns-4 : tie.Need-returns-4
 unfolding treeRules
-returns-4 c = sym (row-none _ _ _ _ _ (c .before .before .before .before .before .before .before .first-repeated .ensures) (c .before .before .before .before .before .before .if1 .left) ∙ row-none _ _ _ _ _ (c .before .before .before .before .before .first-broken-edge .ensures) (c .before .before .before .before .if2 .left) ∙ row-none _ _ _ _ _ (c .before .before .before .first-unordered .ensures) (c .before .before .if3 .left) ∙ row-found _ _ _ _ _ (c .before .first-shared .ensures) (c .if4 .taken))
+returns-4 c = (sym (row-none _ _ _ _ _ (c .before .before .before .before .before .before .before .before .before .before .first-repeated .ensures) (c .before .before .before .before .before .before .before .before .before .if1 .left) ∙ row-none _ _ _ _ _ (c .before .before .before .before .before .before .before .before .first-broken-edge .ensures) (c .before .before .before .before .before .before .before .if2 .left) ∙ row-none _ _ _ _ _ (c .before .before .before .before .before .before .first-unordered .ensures) (c .before .before .before .before .before .if3 .left) ∙ row-found _ _ _ _ _ (c .before .before .before .first-shared .ensures .0) (c .if4 .taken)), refusal-hands _ _ _ _ refl)
+
+same-length-2 : tie.Need-same-length-2
+same-length-2 c = search needs
 
 returns-5 : tie.Need-returns-5
 unfolding treeRules
-returns-5 c = sym (row-none _ _ _ _ _ (c .before .before .before .before .before .before .before .first-repeated .ensures) (c .before .before .before .before .before .before .if1 .left) ∙ row-none _ _ _ _ _ (c .before .before .before .before .before .first-broken-edge .ensures) (c .before .before .before .before .if2 .left) ∙ row-none _ _ _ _ _ (c .before .before .before .first-unordered .ensures) (c .before .before .if3 .left) ∙ row-none _ _ _ _ _ (c .before .first-shared .ensures) (c .if4 .left))
+returns-5 c = (sym (row-none _ _ _ _ _ (c .before .before .before .before .before .before .before .before .before .before .first-repeated .ensures) (c .before .before .before .before .before .before .before .before .before .if1 .left) ∙ row-none _ _ _ _ _ (c .before .before .before .before .before .before .before .before .first-broken-edge .ensures) (c .before .before .before .before .before .before .before .if2 .left) ∙ row-none _ _ _ _ _ (c .before .before .before .before .before .before .first-unordered .ensures) (c .before .before .before .before .before .if3 .left) ∙ row-none _ _ _ _ _ (c .before .before .before .first-shared .ensures .0) (c .if4 .left)), order-hands _ _ _ (c .before .before .before .first-shared .ensures .1 (c .if4 .left)))
 
 pub tree-checked-spec : {M : Type 1} → statement M
 tree-checked-spec =
@@ -50,5 +58,7 @@ tree-checked-spec =
     first-unordered-requires
     returns-3
     first-shared-requires
+    same-length
     returns-4
+    same-length-2
     returns-5)

@@ -1,7 +1,7 @@
 -- `line_up` meets its contract: all edges, sorted by (child, left).
 use mathlib.Core.Path.{sym, _∙_}
 use Rattle.order.specs.Tables.{own-rows}
-use Rattle.rules.proofs.Sorting.{edges-lined, edge-keys}
+use Rattle.rules.proofs.Sorting.{edges-lined, edges-ascend, edge-keys}
 use borrow.Author.Needs.{needs}
 use Rattle.rules.proofs.shared.line_up.Statement.{statement}
 use Rattle.rules.proofs.shared.line_up.Tie as tie
@@ -16,7 +16,7 @@ same-length : tie.Need-same-length
 same-length c = search needs
 
 returns : tie.Need-returns
-returns c = edges-lined _ _ _ _ (c .before .before .before .before .before .before .before .before .before .before .before .before .before .pre .1) (c .before .before .before .before .before .before .iota .ensures) (c .before .before .before .before .before .before .before .before .before .before .before .before .before .pre .2) (c .before .before .sort-rows .kept .1 .1 .1 .1 .0 ∙ c .before .before .before .before .before .before .iota .kept .0 ∙ c .before .before .before .before .before .before .before .before .before .before .before .before .before .pre .2) (c .before .before .sort-rows .ensures)
+returns c = (edges-lined _ _ _ _ (c .before .before .before .before .before .before .before .before .before .before .before .before .before .pre .1) (c .before .before .before .before .before .before .iota .ensures) (c .before .before .before .before .before .before .before .before .before .before .before .before .before .pre .2) (c .before .before .sort-rows .kept .1 .1 .1 .1 .0 ∙ c .before .before .before .before .before .before .iota .kept .0 ∙ c .before .before .before .before .before .before .before .before .before .before .before .before .before .pre .2) (c .before .before .sort-rows .ensures), edges-ascend _ _ _ (c .before .before .sort-rows .ensures))
 
 pub line-up-spec : {M : Type 1} → statement M
 line-up-spec = tie.close (tie.spec iota-requires sort-rows-requires same-length returns)
