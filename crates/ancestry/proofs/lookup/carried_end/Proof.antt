@@ -22,22 +22,22 @@ loop-holds : tie.Need-loop-holds Inv-loop μ-loop
 loop-holds c = (omega (arith, c .before .before .before .before .before .pre .first), chained-one _ _ _ _ _ (c .cell-at .ensures))
 
 cell-at-requires-2 : tie.Need-cell-at-requires-2 Inv-loop μ-loop
-cell-at-requires-2 c κs = linked-left _ _ _ _ _ _ (c .before .before .before .before .before .before .before .pre) _ (omega (arith, c .before .loop .inv .1 .some)) (c .loop-test .taken)
+cell-at-requires-2 c κs = linked-left _ _ _ _ _ _ (c .before .before .before .before .before .before .before .pre) _ (omega (arith, c .before .loop .inv .1 .some)) (omega (arith, c .loop-test .taken, c .before .before .before .before .before .before .before .pre .first))
 
 returns : tie.Need-returns Inv-loop μ-loop
-returns c = carried-apart _ _ _ _ _ _ _ (c .before .before .before .loop .inv .1) _ (c .before .before .loop-test .taken) (c .before .cell-at2 .ensures) (c .if1 .taken)
+returns c = carried-apart _ _ _ _ _ _ _ (c .before .before .before .loop .inv .1) _ (omega (arith, c .before .before .loop-test .taken, c .before .before .before .before .before .before .before .before .before .pre .first)) (c .before .cell-at2 .ensures) (c .if1 .taken)
 
 cell-at-requires-3 : tie.Need-cell-at-requires-3 Inv-loop μ-loop
-cell-at-requires-3 c κs = linked-parent _ _ _ _ _ _ (c .before .before .before .before .before .before .before .before .before .pre) _ (omega (arith, c .before .before .before .loop .inv .1 .some)) (c .before .before .loop-test .taken)
+cell-at-requires-3 c κs = linked-parent _ _ _ _ _ _ (c .before .before .before .before .before .before .before .before .before .pre) _ (omega (arith, c .before .before .before .loop .inv .1 .some)) (omega (arith, c .before .before .loop-test .taken, c .before .before .before .before .before .before .before .before .before .pre .first))
 
 cell-at-requires-4 : tie.Need-cell-at-requires-4 Inv-loop μ-loop
-cell-at-requires-4 c κs = linked-parent _ _ _ _ _ _ (c .before .before .before .before .before .before .before .before .before .before .pre) _ (omega arith) (c .before .before .before .before .before .before .before .before .before .before .pre .first)
+cell-at-requires-4 c κs = linked-parent _ _ _ _ _ _ (c .before .before .before .before .before .before .before .before .before .before .pre) _ (omega (arith, c .before .before .before .before .loop .inv .1 .some)) (omega (arith, c .before .before .before .loop-test .taken, c .before .before .before .before .before .before .before .before .before .before .pre .first))
 
 returns-2 : tie.Need-returns-2 Inv-loop μ-loop
-returns-2 c = carried-other _ _ _ _ _ _ _ (c .before .before .before .before .before .before .loop .inv .1) _ (c .before .before .before .before .before .loop-test .taken) (c .before .before .cell-at3 .ensures) (c .before .cell-at4 .ensures) (c .if2 .taken)
+returns-2 c = carried-other _ _ _ _ _ _ _ (c .before .before .before .before .before .before .loop .inv .1) _ (omega (arith, c .before .before .before .before .before .loop-test .taken, c .before .before .before .before .before .before .before .before .before .before .before .before .pre .first)) (c .before .before .cell-at3 .ensures) (c .before .cell-at4 .ensures) (c .if2 .taken)
 
 cell-at-requires-5 : tie.Need-cell-at-requires-5 Inv-loop μ-loop
-cell-at-requires-5 c κs = linked-right _ _ _ _ _ _ (c .before .before .before .before .before .before .before .before .before .before .before .before .pre) _ (omega (arith, c .before .before .before .before .before .before .loop .inv .1 .some)) (c .before .before .before .before .before .loop-test .taken)
+cell-at-requires-5 c κs = linked-right _ _ _ _ _ _ (c .before .before .before .before .before .before .before .before .before .before .before .before .pre) _ (omega (arith, c .before .before .before .before .before .before .loop .inv .1 .some)) (omega (arith, c .before .before .before .before .before .loop-test .taken, c .before .before .before .before .before .before .before .before .before .before .before .before .pre .first))
 
 add-i-2 : tie.Need-add-i-2 Inv-loop μ-loop
 add-i-2 c = omega (arith, c .before .before .before .before .before .before .loop-test .taken, c .before .before .before .before .before .before .before .before .before .before .before .before .before .pre .inside, c .before .before .before .before .before .before .before .before .before .before .before .before .before .good)
