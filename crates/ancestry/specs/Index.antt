@@ -25,8 +25,8 @@ pub record Whole (E : EdgeColumns) (L : ℕ) : Type 0 where
   pub inside : (e : ℕ) → e < length (E .left) → at (E .right) e ≤ L
 
 -- what looking up a parent asks of the edges, their order by child and the ends
-pub record Indexed (E : EdgeColumns) (L : ℕ) (by ends : List ℕ) : Type 0 where
+pub record Indexed (E : EdgeColumns) (L : ℕ) (by closed : List ℕ) : Type 0 where
   pub even : Even E
   pub whole : Whole E L
   pub order : ByChild E by
-  pub ends : Ends (E .child) by ends
+  pub ends : Ends (E .child) by closed
