@@ -2,7 +2,8 @@
 use mathlib.Core.Path.{_≡_, sym, ap, _∙_}
 use mathlib.Core.Bool.{Bool, true, false}
 use mathlib.Core.List.{List}
-use Prim.Native.Nat.{ℕ}
+use Prim.Native.Nat.{ℕ, _≤_}
+use native.Mathlib.Omega.{arith}
 use lib.ListN.{length, take}
 use Rattle.meaning.specs.declared.Refusal.{Refusal}
 use Rattle.meaning.specs.declared.Checked.{Checked}
@@ -45,6 +46,10 @@ module _ (L : ℕ) (T : Tables) (c : Checked) (e : checkedOf c ≡ checkThen lim
 
   pub sound-readable : (lent : List ℕ) → LentOrder c (T .edges) lent → c ≡ checked.Sound → Readable L T (take (length (T .edges .left)) lent)
   sound-readable lent o q = readable L T (take (length (T .edges .left)) lent) (tables-sound limits L T done (was-sound (checkThen limits L T) hand c e q) .0) (o .order q)
+
+  -- a column as long as the edges may be has room for the order
+  pub lent-room : (lent : List ℕ) → LentOrder c (T .edges) lent → c ≡ checked.Sound → (n : ℕ) → limits .edges ≡ n → length lent ≡ n → length (T .edges .left) ≤ length lent
+  lent-room lent o q n m l = omega (arith, sound-readable lent o q .few-edges)
 
   module _ (i b : ℕ) where
     -- the call's answer and state by the answer after the check

@@ -1,38 +1,31 @@
+-- `alleles::read_allele` meets its contract.
+use mathlib.Core.Path.{sym}
+use Rattle.alleles.specs.Call.{no-site}
+use Rattle.alleles.proofs.Calling.{row-exists, answer-state, answer-no-birth}
 use borrow.Author.Needs.{needs}
 use Rattle.alleles.proofs.read_allele.Statement.{statement}
 use Rattle.alleles.proofs.read_allele.Tie as tie
-use Rattle.alleles.proofs.read_allele.Reads as reads
-use Rattle.alleles.proofs.read_allele.Lts as lts
-use Rattle.alleles.proofs.row_of.Reads as row-of-reads
-use Rattle.alleles.proofs.state_of.Reads as state-of-reads
 
--- src/lib.rt:230:9
 returns : tie.Need-returns
-returns c = ?
+returns c = sym (no-site _ _ _ _ (c .if1 .taken))
 
--- src/lib.rt:232:11
 row-of-requires : tie.Need-row-of-requires
 row-of-requires c κs = search needs
 
--- src/lib.rt:233:19
 enum-known-u : tie.Need-enum-known-u
 enum-known-u c = search needs
 
--- src/lib.rt:233:39
 state-of-requires : tie.Need-state-of-requires
-state-of-requires c κs = ?
+state-of-requires c κs = (c .before .before .before .before .before .before .before .before .before .before .before .before .before .before .before .before .before .pre, c .before .before .before .before .if1 .left, row-exists _ _ _ (c .before .before .before .before .before .before .before .before .before .before .before .before .before .before .before .before .before .pre) _ _ (c .before .before .before .row-of .ensures) _ (c .before .u .given .1))
 
--- src/lib.rt:250:43
 enum-told : tie.Need-enum-told
 enum-told c = search needs
 
--- src/lib.rt:196:1
 returns-2 : tie.Need-returns-2
-returns-2 c = ?
+returns-2 c = answer-state _ _ _ (c .before .before .before .before .before .before .before .before .before .before .before .before .before .before .before .before .before .before .pre) _ _ (c .before .before .before .before .row-of .ensures) _ _ _ (c .before .before .before .before .before .if1 .left) (c .before .before .u .given .1) (c .state-of .ensures)
 
--- src/lib.rt:196:1
 returns-3 : tie.Need-returns-3
-returns-3 c = ?
+returns-3 c = answer-no-birth _ _ _ (c .before .before .before .before .before .before .before .before .before .before .before .before .before .before .before .before .pre) _ _ (c .before .before .row-of .ensures) _ (c .before .before .before .if1 .left) (c .enum-told .given .1)
 
 pub read-allele-spec : {M : Type 1} → statement M
 read-allele-spec =
