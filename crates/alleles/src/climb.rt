@@ -1,9 +1,10 @@
 // 01's way upwards: a function that calls itself, with the parent looked up at each step. It calls itself a bounded number of times,
 // and a loop goes on from where it stopped.
 ghost use mathlib.Core.Path.{_≡_};
-ghost use Prim.Native.Nat.{ℕ, _≤_, min};
-ghost use Rattle.meaning.specs.Rows.{EdgeColumns, edgeTable};
-ghost use Rattle.alleles.specs.Reading.{Climbable, CarrierAt};
+ghost use Prim.Native.Nat.{_≤_, min};
+ghost use lib.ListN.{length};
+ghost use Rattle.meaning.specs.Rows.{edgeTable};
+ghost use Rattle.alleles.specs.Reading.{Climbable, CarrierAt, carriedBy};
 ghost use Rattle.alleles.specs.Stops.{Led};
 use super::Carrier;
 
@@ -23,7 +24,7 @@ fn lower(a: u32, b: u32) -> u32
     b
 }
 
-// Climbs from row u, at most calls more rows. It calls itself; the number of older rows falls.
+// Climbs from row u, with the least end met below it. It calls itself; the number of older rows falls.
 fn up(
     len: u32,
     time: &[u32],
@@ -36,8 +37,8 @@ fn up(
     has: &[u8],
     x: u32,
     u: u32,
+    calls_left: u32,
     least: u32,
-    calls: u32,
 ) -> Stop
     requires { ⌜ Climbable (now time) (edgeTable (now left) (now right) (now parent) (now child)) len (now «by_child») (now ends) (now has) u × (least ≤ len) ⌝ }
     ensures { λ r. ⌜ Led (now (time .entry)) (edgeTable (now (left .entry)) (now (right .entry)) (now (parent .entry)) (now (child .entry))) len x (now (has .entry)) u least r ⌝ }
@@ -45,23 +46,13 @@ fn up(
     if has[u as usize] == 1 {
         return Stop::Done(Carrier { row: u, end: least });
     }
-    let s = super::standin::parent_from(
-        len,
-        left,
-        right,
-        parent,
-        child,
-        by_child,
-        ends,
-        x,
-        u,
-    );
+    let s = super::standin::parent_from(len, left, right, parent, child, by_child, ends, x, u);
     let p = s.parent;
     let end = lower(least, s.end);
     if p == ancestry::ParentColumn::NONE {
         return Stop::Done(Carrier { row: p, end: end });
     }
-    if calls == 0 {
+    if calls_left == 0 {
         return Stop::From(p, end);
     }
     up(
@@ -76,8 +67,8 @@ fn up(
         has,
         x,
         p,
+        calls_left - 1,
         end,
-        calls - 1,
     )
 }
 
@@ -113,8 +104,8 @@ pub fn carrier(
             has,
             x,
             v,
-            least,
             Carrier::CALLS,
+            least,
         ) {
             Stop::Done(r) => return r,
             Stop::From(p, end) => {
@@ -123,4 +114,43 @@ pub fn carrier(
             }
         }
     }
+}
+
+// The state that row u carries at x, from the columns of a site; the other is the site's ancestral state.
+pub fn carried(
+    len: u32,
+    time: &[u32],
+    left: &[u32],
+    right: &[u32],
+    parent: &[u32],
+    child: &[u32],
+    by_child: &[u32],
+    ends: &[u32],
+    has: &[u8],
+    state: &[u8],
+    other: u8,
+    x: u32,
+    u: u32,
+) -> u8
+    requires { ⌜ Climbable (now time) (edgeTable (now left) (now right) (now parent) (now child)) len (now «by_child») (now ends) (now has) u × (length (now time) ≤ length (now state)) ⌝ }
+    ensures { λ r. ⌜ r ≡ carriedBy (edgeTable (now (left .entry)) (now (right .entry)) (now (parent .entry)) (now (child .entry))) x (now (has .entry)) (now (state .entry)) other u ⌝ }
+{
+    let c = carrier(
+        len,
+        time,
+        left,
+        right,
+        parent,
+        child,
+        by_child,
+        ends,
+        has,
+        x,
+        u,
+    );
+    let w = c.row;
+    if w == ancestry::ParentColumn::NONE {
+        return other;
+    }
+    state[w as usize]
 }

@@ -1,14 +1,14 @@
 // Reading one allele: the marks and last states of a site's mutations by node rows, and the state of the first marked row at or above a row.
 ghost use mathlib.Core.Path.{_≡_};
-ghost use Prim.Native.Nat.{ℕ, _<_, _≤_};
+ghost use Prim.Native.Nat.{_<_, _≤_};
 ghost use lib.ListN.{length, replicate, set};
 ghost use Rattle.meaning.specs.Words.{at, rows};
-ghost use Rattle.meaning.specs.Rows.{EdgeColumns, MutationColumns, Tables, nodeTable, edgeTable, siteTable, mutationTable, tables, recordOf};
+ghost use Rattle.meaning.specs.Rows.{nodeTable, edgeTable, siteTable, mutationTable, tables, recordOf};
 ghost use Rattle.meaning.specs.Answer.{alleleOf, limits};
 ghost use Rattle.meaning.specs.Allele.{alleleAt, allele};
 ghost use Rattle.alleles.specs.Call.{readAllele};
 ghost use Rattle.alleles.specs.Marks.{foundOf, rowOf, markAfter, stateAfter, Naming, marksOf, statesOf};
-ghost use Rattle.alleles.specs.Reading.{Climbable, carriedBy, Readable};
+ghost use Rattle.alleles.specs.Reading.{Readable};
 
 pub mod climb; // the first marked row at or above a row
 mod standin;
@@ -30,7 +30,7 @@ pub struct Carrier {
 }
 
 impl Carrier {
-    // The calls that stand on the stack at most, beside the first.
+    // How often a climb calls itself before it hands back the row to go on from.
     const CALLS: u32 = 64;
 }
 
@@ -107,33 +107,6 @@ pub fn marks_at(
     fill(site, node, derived, i, has, state);
 }
 
-// The state that row u carries at x, from the columns of a site; the other is the site's ancestral state.
-pub fn carried(
-    len: u32,
-    time: &[u32],
-    left: &[u32],
-    right: &[u32],
-    parent: &[u32],
-    child: &[u32],
-    by_child: &[u32],
-    ends: &[u32],
-    has: &[u8],
-    state: &[u8],
-    other: u8,
-    x: u32,
-    u: u32,
-) -> u8
-    requires { ⌜ Climbable (now time) (edgeTable (now left) (now right) (now parent) (now child)) len (now «by_child») (now ends) (now has) u × (length (now time) ≤ length (now state)) ⌝ }
-    ensures { λ r. ⌜ r ≡ carriedBy (edgeTable (now (left .entry)) (now (right .entry)) (now (parent .entry)) (now (child .entry))) x (now (has .entry)) (now (state .entry)) other u ⌝ }
-{
-    let c = climb::carrier(len, time, left, right, parent, child, by_child, ends, has, x, u);
-    let w = c.row;
-    if w == ancestry::ParentColumn::NONE {
-        return other;
-    }
-    state[w as usize]
-}
-
 // The state that the fish of row u carries at site row i.
 pub fn state_of(
     len: u32,
@@ -175,7 +148,7 @@ pub fn state_of(
     let mut state = [0u8; meaning::NodeTable::MOST];
     standin::fill_ends(left, right, parent, child, by_child, &mut ends);
     marks_at(site, node, derived, i, other, &mut has, &mut state);
-    carried(
+    climb::carried(
         len,
         time,
         left,

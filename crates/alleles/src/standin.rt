@@ -1,8 +1,8 @@
 // Stand-ins, with the contracts of routines that other crates are to have.
 ghost use mathlib.Core.Path.{_≡_};
-ghost use Prim.Native.Nat.{ℕ, _<_, _≤_};
+ghost use Prim.Native.Nat.{_<_, _≤_};
 ghost use lib.ListN.{length};
-ghost use Rattle.meaning.specs.Rows.{EdgeColumns, Tables, nodeTable, edgeTable, siteTable, mutationTable, tables};
+ghost use Rattle.meaning.specs.Rows.{nodeTable, edgeTable, siteTable, mutationTable, tables};
 ghost use Rattle.meaning.specs.Answer.{done, limits, checkedOf};
 ghost use Rattle.meaning.specs.Check.{checkThen};
 ghost use Rattle.rules.specs.ByChild.{ByChild};
@@ -27,7 +27,10 @@ pub fn parent_from(
     requires { ⌜ Indexed (edgeTable (now left) (now right) (now parent) (now child)) len (now «by_child») (now ends) × (u < length (now ends)) ⌝ }
     ensures { λ r. ⌜ r ≡ stretchAt (edgeTable (now (left .entry)) (now (right .entry)) (now (parent .entry)) (now (child .entry))) len x u ⌝ }
 {
-    ancestry::Stretch { parent: u, end: len }
+    ancestry::Stretch {
+        parent: u,
+        end: len,
+    }
 }
 
 // Will be ancestry::index::fill_ends.
@@ -43,8 +46,7 @@ pub fn fill_ends(
         Even (edgeTable (now left) (now right) (now parent) (now child)) × ByChild
         (edgeTable (now left) (now right) (now parent) (now child)) (now «by_child») × (length (now left) ≤ 4294967295) × (length (now ends) ≤ 4294967295) ⌝ }
     ensures { λ _. ⌜ Ends (now (child .entry)) (now («by_child» .entry)) (now (ends .exit)) ⌝ }
-{
-}
+{}
 
 // Will be checker::check_lent.
 pub fn check_lent(

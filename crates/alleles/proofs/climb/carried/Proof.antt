@@ -1,11 +1,11 @@
--- `alleles::carried` meets its contract.
+-- `alleles::climb::carried` meets its contract.
 use native.Mathlib.Omega.{arith}
 use Rattle.alleles.proofs.Climbing.{found-row, found-state, found-nothing}
 use borrow.Author.Needs.{needs}
-use Rattle.alleles.proofs.carried.Statement.{statement}
-use Rattle.alleles.proofs.carried.Tie as tie
-use Rattle.alleles.proofs.carried.Reads as reads
-use Rattle.alleles.proofs.carried.Lts as lts
+use Rattle.alleles.proofs.climb.carried.Statement.{statement}
+use Rattle.alleles.proofs.climb.carried.Tie as tie
+use Rattle.alleles.proofs.climb.carried.Reads as reads
+use Rattle.alleles.proofs.climb.carried.Lts as lts
 use Rattle.alleles.proofs.climb.carrier.Reads as carrier-reads
 
 carrier-requires : tie.Need-carrier-requires
