@@ -1,6 +1,7 @@
 -- What the allele call answers, from the row that was found.
 use mathlib.Core.Path.{_≡_, sym, ap, _∙_}
 use mathlib.Core.Bool.{true}
+use mathlib.Core.List.{List}
 use Prim.Native.Nat.{ℕ, _<_}
 use native.Mathlib.Omega.{arith}
 use lib.ListN.{length}
@@ -16,16 +17,16 @@ use Rattle.alleles.specs.Reading.{Readable}
 use Rattle.alleles.specs.Call.{readAllele, no-birth, reads}
 use Rattle.alleles.proofs.Finding.{row-at, row-none}
 
-module _ (T : Tables) (ok : Readable T) (b : ℕ) (r : Found) (e : foundOf r ≡ rowOf (T .nodes .birth) b) where
+module _ (L : ℕ) (T : Tables) (by : List ℕ) (ok : Readable L T by) (b : ℕ) (r : Found) (e : foundOf r ≡ rowOf (T .nodes .birth) b) where
   -- the row that was found exists
   pub row-exists : (u : ℕ) → r ≡ At u → u < length (T .nodes .time)
   row-exists u q = omega (arith, row-at b (T .nodes .birth) u (sym e ∙ ap foundOf q) .0, ok .births-long)
 
-  pub answer-state : (L i u s : ℕ) → i < length (T .sites .position) → r ≡ At u → s ≡ alleleAt (recordOf L T) i (at (T .nodes .birth) u) → _≡_ {A = Stated} (record { answer = done; state = s }) (readAllele L T i b)
-  answer-state L i u s h q f =
+  pub answer-state : (i u s : ℕ) → i < length (T .sites .position) → r ≡ At u → s ≡ alleleAt (recordOf L T) i (at (T .nodes .birth) u) → _≡_ {A = Stated} (record { answer = done; state = s }) (readAllele L T i b)
+  answer-state i u s h q f =
       let a : _ = row-at b (T .nodes .birth) u (sym e ∙ ap foundOf q) in
       let m : mem b (T .nodes .birth) ≡ true = rw (a .1) at (at-mem (T .nodes .birth) u (a .0)) in
       ap (λ (s : ℕ). record { answer = done; state = s }) (f ∙ ap (alleleAt (recordOf L T) i) (a .1)) ∙ sym (reads L T i b h m)
 
-  pub answer-no-birth : (L i : ℕ) → i < length (T .sites .position) → r ≡ Nothing → _≡_ {A = Stated} (record { answer = answer 42 0; state = 0 }) (readAllele L T i b)
-  answer-no-birth L i h q = sym (no-birth L T i b h (row-none b (T .nodes .birth) (sym e ∙ ap foundOf q)))
+  pub answer-no-birth : (i : ℕ) → i < length (T .sites .position) → r ≡ Nothing → _≡_ {A = Stated} (record { answer = answer 42 0; state = 0 }) (readAllele L T i b)
+  answer-no-birth i h q = sym (no-birth L T i b h (row-none b (T .nodes .birth) (sym e ∙ ap foundOf q)))

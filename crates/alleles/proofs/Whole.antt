@@ -1,8 +1,10 @@
 -- The whole allele call: the check of the tables, and then 41, 42 or the state.
 use mathlib.Core.Path.{_≡_, sym, ap, _∙_}
 use mathlib.Core.Bool.{Bool, true, false}
-use Prim.Native.Nat.{ℕ}
-use lib.ListN.{length}
+use mathlib.Core.List.{List}
+use Prim.Native.Nat.{ℕ, _≤_}
+use native.Mathlib.Omega.{arith}
+use lib.ListN.{length, take}
 use Rattle.meaning.specs.declared.Refusal.{Refusal}
 use Rattle.meaning.specs.declared.Checked.{Checked}
 use Rattle.meaning.specs.declared.Checked.the-variants as checked
@@ -10,22 +12,29 @@ use Rattle.meaning.specs.Rows.{Tables, recordOf}
 use Rattle.meaning.specs.Answer.{Answer, Stated, done, limits, refusalOf, checkedOf}
 use Rattle.meaning.specs.Check.{checkThen}
 use Rattle.meaning.specs.Allele.{alleleAt, alleleAnswer, allele}
-use Rattle.checker.specs.Found.{TablesSound}
+use Rattle.checker.specs.Found.{TablesSound, Ordered}
 use Rattle.checker.proofs.After.{Hands, hands, tables-after, refused, stops, goes-on, was-sound}
-use Rattle.checker.proofs.Rows.{rising, lined, apart}
+use Rattle.checker.proofs.Rows.{edge-whole, rising, lined, apart}
 use Rattle.checker.proofs.Sound.{tables-sound}
+use Rattle.rules.specs.ByChild.{ByChild}
 use Rattle.alleles.specs.Reading.{Readable}
 use Rattle.alleles.specs.Call.{stated, named, readAllele}
 
 -- tables that the check does not refuse can be read
-readable : (L : ℕ) (T : Tables) → TablesSound limits L T → Readable T
-readable L T s =
+readable : (L : ℕ) (T : Tables) (by : List ℕ) → TablesSound limits L T → ByChild (T .edges) by → Readable L T by
+readable L T by s o =
     let m : _ = lined (length (T .sites .position)) (length (T .nodes .time)) (T .muts) (s .shaped .node-long) (s .sites .whole) in
     record {
       few = s .sized .nodes;
+      few-edges = s .sized .edges;
       births-long = s .shaped .birth-long;
       once = apart (T .nodes .birth) (s .tree .once);
       rising = rising L (T .nodes .time) (T .edges) (s .shaped .edges) (s .tree .whole);
+      whole = record {
+        held = λ e l. edge-whole L (T .nodes .time) (T .edges) e (s .tree .whole e l) .holds;
+        inside = λ e l. edge-whole L (T .nodes .time) (T .edges) e (s .tree .whole e l) .inside;
+      };
+      order = o;
       states-long = s .shaped .ancestral-long;
       naming = record { node-long = s .shaped .node-long; derived-long = s .shaped .derived-long; node-row = m .node-row };
     }
@@ -34,8 +43,12 @@ module _ (L : ℕ) (T : Tables) (c : Checked) (e : checkedOf c ≡ checkThen lim
   hand : Hands (checkThen limits L T)
   hand = hands (checkThen limits L T) (tables-after limits L T)
 
-  pub sound-readable : c ≡ checked.Sound → Readable T
-  sound-readable q = readable L T (tables-sound limits L T done (was-sound (checkThen limits L T) hand c e q) .0)
+  pub sound-readable : (lent : List ℕ) → Ordered c (T .edges) (take (length (T .edges .left)) lent) → c ≡ checked.Sound → Readable L T (take (length (T .edges .left)) lent)
+  sound-readable lent o q = readable L T (take (length (T .edges .left)) lent) (tables-sound limits L T done (was-sound (checkThen limits L T) hand c e q) .0) (o .order q)
+
+  -- a column as long as the edges may be has room for the order
+  pub lent-room : (lent : List ℕ) → Ordered c (T .edges) (take (length (T .edges .left)) lent) → c ≡ checked.Sound → (n : ℕ) → limits .edges ≡ n → length lent ≡ n → length (T .edges .left) ≤ length lent
+  lent-room lent o q n m l = omega (arith, sound-readable lent o q .few-edges)
 
   module _ (i b : ℕ) where
     -- the call's answer and state by the answer after the check

@@ -1,46 +1,48 @@
--- The state that a node row carries at a site, by the columns that are filled once for the site.
+-- The first marked row at or above a node row, how far that holds, and the state that the node carries by it.
 use mathlib.Core.Path.{_≡_}
 use mathlib.Core.List.{List}
 use mathlib.Core.Option.{none, some}
 use Prim.Native.Nat.{ℕ, _<_, _≤_}
 use lib.ListN.{length}
-use Rattle.meaning.specs.Words.{at, rows}
-use Rattle.meaning.specs.Rows.{EdgeColumns, MutationColumns, Tables}
+use Rattle.meaning.specs.Words.{at}
+use Rattle.meaning.specs.Rows.{EdgeColumns, Tables}
 use Rattle.meaning.specs.Forest.{Ages, near}
 use Rattle.meaning.specs.Answer.{limits}
 use Rattle.bridge.specs.Columns.{Apart}
-use Rattle.ancestry.specs.Column.{code, parOf, parentRow, Fitting, Rising}
-use Rattle.ancestry.specs.Marks.{marked, Upward}
-use Rattle.alleles.specs.Marks.{Naming, marksOf, statesOf}
+use Rattle.rules.specs.ByChild.{ByChild}
+use Rattle.ancestry.specs.Column.{no-row, code, parentRow, older, Rising}
+use Rattle.ancestry.specs.Marks.{marked}
+use Rattle.ancestry.specs.Index.{Whole, Indexed}
+use Rattle.ancestry.specs.Stretch.{nearUntil}
+use Rattle.alleles.specs.declared.Carrier.{Carrier}
+use Rattle.alleles.specs.Marks.{Naming}
 
--- what the way up from row u asks of the parents' column and the marks
-pub record Climbable (time par has : List ℕ) (u : ℕ) : Type 0 where
-  pub upward : Upward time par
+-- what the way up from row u asks of the edges, their order by child with the ends, and the marks
+pub record Climbable (time : List ℕ) (E : EdgeColumns) (L : ℕ) (by ends has : List ℕ) (u : ℕ) : Type 0 where
+  pub indexed : Indexed E L by ends
+  pub rising : Rising time E
+  pub few : length time ≤ no-row
+  pub ends-long : length time ≤ length ends
   pub long : length time ≤ length has
   pub row : u < length time
 
--- the state of the first marked row at or above u, or the other where there is none
-unfoldable pub carriedBy : List ℕ → List ℕ → List ℕ → ℕ → ℕ → ℕ
-carriedBy par has state other u = elim (near (parOf par) (marked has) Ages u) [ none ↦ other | some w ↦ at state w ]
+-- r is the first marked row at or above u at x, as a cell, and how far that way holds: any number of steps that is enough tells it
+pub record CarrierAt (time : List ℕ) (E : EdgeColumns) (L x : ℕ) (has : List ℕ) (u : ℕ) (r : Carrier) : Type 0 where
+  pub found : (k : ℕ) → older time u < k → r .row ≡ code (near (parentRow E x) (marked has) k u)
+  pub until : (k : ℕ) → older time u < k → r .end ≡ nearUntil E L x (marked has) k u
 
--- what filling the columns of a site asks: m cells each, and rows below m
-pub record Fillable (E : EdgeColumns) (M : MutationColumns) (par has state : List ℕ) : Type 0 where
-  pub edges : Fitting E (length par)
-  pub naming : Naming M (length par)
-  pub has-long : length has ≡ length par
-  pub state-long : length state ≡ length par
+-- the state of the first marked row at or above u at x, or the other where there is none
+unfoldable pub carriedBy : EdgeColumns → ℕ → List ℕ → List ℕ → ℕ → ℕ → ℕ
+carriedBy E x has state other u = elim (near (parentRow E x) (marked has) Ages u) [ none ↦ other | some w ↦ at state w ]
 
--- the columns of site row i at position x, for m rows: each row's parent, whether it has a mutation there, and its last state
-pub record Opened (E : EdgeColumns) (M : MutationColumns) (x i other m : ℕ) (par has state : List ℕ) : Type 0 where
-  pub parents : par ≡ rows (λ u. code (parentRow E x u)) m
-  pub marks : has ≡ marksOf M i m
-  pub states : state ≡ statesOf M i other m
-
--- what the rules 1, 2, 4, 5 and 9 find of tables, as far as an allele is read by it
-pub record Readable (T : Tables) : Type 0 where
+-- what the rules 1, 2, 4, 5, 7 and 9 find of tables, as far as an allele is read by it, with the order in which 7 looks at the edges
+pub record Readable (L : ℕ) (T : Tables) (by : List ℕ) : Type 0 where
   pub few : length (T .nodes .time) ≤ limits .nodes
+  pub few-edges : length (T .edges .left) ≤ limits .edges
   pub births-long : length (T .nodes .birth) ≡ length (T .nodes .time)
   pub once : Apart (T .nodes .birth)
   pub rising : Rising (T .nodes .time) (T .edges)
+  pub whole : Whole (T .edges) L
+  pub order : ByChild (T .edges) by
   pub states-long : length (T .sites .ancestral) ≡ length (T .sites .position)
   pub naming : Naming (T .muts) (length (T .nodes .time))

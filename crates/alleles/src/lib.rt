@@ -1,17 +1,17 @@
-// Reading one allele: the marks and last states of a site's mutations by node rows, and the first marked row at or above a row.
+// Reading one allele: the marks and last states of a site's mutations by node rows, and the state of the first marked row at or above a row.
 ghost use mathlib.Core.Path.{_≡_};
-ghost use Prim.Native.Nat.{ℕ, _<_, _≤_};
+ghost use Prim.Native.Nat.{_<_, _≤_};
 ghost use lib.ListN.{length, replicate, set};
 ghost use Rattle.meaning.specs.Words.{at, rows};
-ghost use Rattle.meaning.specs.Rows.{EdgeColumns, MutationColumns, Tables, nodeTable, edgeTable, siteTable, mutationTable, tables, recordOf};
-ghost use Rattle.meaning.specs.Forest.{near};
+ghost use Rattle.meaning.specs.Rows.{nodeTable, edgeTable, siteTable, mutationTable, tables, recordOf};
 ghost use Rattle.meaning.specs.Answer.{alleleOf, limits};
 ghost use Rattle.meaning.specs.Allele.{alleleAt, allele};
-ghost use Rattle.ancestry.specs.Column.{no-row, older, parOf};
-ghost use Rattle.ancestry.specs.Marks.{marked};
 ghost use Rattle.alleles.specs.Call.{readAllele};
 ghost use Rattle.alleles.specs.Marks.{foundOf, rowOf, markAfter, stateAfter, Naming, marksOf, statesOf};
-ghost use Rattle.alleles.specs.Reading.{Climbable, carriedBy, Fillable, Opened, Readable};
+ghost use Rattle.alleles.specs.Reading.{Readable};
+
+pub mod climb; // the first marked row at or above a row
+
 use meaning::Allele;
 use meaning::Checked;
 use meaning::Refusal;
@@ -20,6 +20,17 @@ use meaning::Refusal;
 pub enum Found {
     At(u32),
     Nothing,
+}
+
+// The first marked row at or above a row, or ParentColumn::NONE, and the end of the stretch in which the way to it is the same.
+pub struct Carrier {
+    pub row: u32,
+    pub end: u32,
+}
+
+impl Carrier {
+    // How often a climb calls itself before it hands back the row to go on from.
+    const CALLS: u32 = 64;
 }
 
 // The row of the birth number b.
@@ -95,60 +106,9 @@ pub fn marks_at(
     fill(site, node, derived, i, has, state);
 }
 
-// The first row at or above u that is marked. It calls itself; the number of older rows falls.
-pub fn carrier(time: &[u32], par: &[u32], has: &[u8], u: u32) -> Found
-    requires { ⌜ Climbable (now time) (now par) (now has) u ⌝ }
-    ensures { λ r. ⌜ ((k : ℕ) → older (now (time .entry)) u < k → foundOf r ≡ near (parOf (now (par .entry))) (marked (now (has .entry))) k u) ⌝ }
-{
-    if has[u as usize] == 1 {
-        return Found::At(u);
-    }
-    let p = par[u as usize];
-    if p == ancestry::ParentColumn::NONE {
-        return Found::Nothing;
-    }
-    carrier(time, par, has, p)
-}
-
-// The state that row u carries, from the columns of a site; the other is the site's ancestral state.
-pub fn carried(time: &[u32], par: &[u32], has: &[u8], state: &[u8], other: u8, u: u32) -> u8
-    requires { ⌜ Climbable (now time) (now par) (now has) u × (length (now time) ≤ no-row) × (length (now time) ≤ length (now state)) ⌝ }
-    ensures { λ r. ⌜ r ≡ carriedBy (now (par .entry)) (now (has .entry)) (now (state .entry)) other u ⌝ }
-{
-    match carrier(time, par, has, u) {
-        Found::At(w) => state[w as usize],
-        Found::Nothing => other,
-    }
-}
-
-// Fills the columns of site row i at position x, once for all the fish that are asked for there.
-pub fn open_site(
-    left: &[u32],
-    right: &[u32],
-    parent: &[u32],
-    child: &[u32],
-    site: &[u32],
-    node: &[u32],
-    derived: &[u8],
-    x: u32,
-    i: u32,
-    other: u8,
-    par: &mut [u32],
-    has: &mut [u8],
-    state: &mut [u8],
-)
-    requires { ⌜ Fillable (edgeTable (now left) (now right) (now parent) (now child)) (mutationTable (now site) (now node) (now derived)) (now par) (now has) (now state) ⌝ }
-    ensures { λ _. ⌜
-        Opened
-        (edgeTable (now (left .entry)) (now (right .entry)) (now (parent .entry)) (now (child .entry)))
-        (mutationTable (now (site .entry)) (now (node .entry)) (now (derived .entry))) x i other (length (now (par .entry))) (now (par .exit)) (now (has .exit)) (now (state .exit)) ⌝ }
-{
-    ancestry::parents_at(left, right, parent, child, x, par);
-    marks_at(site, node, derived, i, other, has, state);
-}
-
 // The state that the fish of row u carries at site row i.
 pub fn state_of(
+    len: u32,
     time: &[u32],
     birth: &[u32],
     left: &[u32],
@@ -160,50 +120,53 @@ pub fn state_of(
     site: &[u32],
     node: &[u32],
     derived: &[u8],
+    by_child: &[u32],
     i: u32,
     u: u32,
 ) -> u8
     requires { ⌜
-        Readable
+        Readable len
         (tables
         (nodeTable (now time) (now birth))
         (edgeTable (now left) (now right) (now parent) (now child))
         (siteTable (now position) (now ancestral))
-        (mutationTable (now site) (now node) (now derived))) × (i < length (now position)) × (u < length (now time)) ⌝ }
+        (mutationTable (now site) (now node) (now derived))) (now «by_child») × (i < length (now position)) × (u < length (now time)) ⌝ }
     ensures { λ r. ⌜
-        ((L : ℕ) → r
-        ≡ alleleAt (recordOf L
+        r
+        ≡ alleleAt (recordOf len
         (tables
         (nodeTable (now (time .entry)) (now (birth .entry)))
         (edgeTable (now (left .entry)) (now (right .entry)) (now (parent .entry)) (now (child .entry)))
         (siteTable (now (position .entry)) (now (ancestral .entry)))
-        (mutationTable (now (site .entry)) (now (node .entry)) (now (derived .entry))))) i (at (now (birth .entry)) u)) ⌝ }
+        (mutationTable (now (site .entry)) (now (node .entry)) (now (derived .entry))))) i (at (now (birth .entry)) u) ⌝ }
 {
     let x = position[i as usize];
     let other = ancestral[i as usize];
-    let mut par = [0u32; meaning::NodeTable::MOST];
+    let mut ends = [0u32; meaning::NodeTable::MOST];
     let mut has = [0u8; meaning::NodeTable::MOST];
     let mut state = [0u8; meaning::NodeTable::MOST];
-    open_site(
+    ancestry::index::fill_ends(left, right, parent, child, by_child, &mut ends);
+    marks_at(site, node, derived, i, other, &mut has, &mut state);
+    climb::carried(
+        len,
+        time,
         left,
         right,
         parent,
         child,
-        site,
-        node,
-        derived,
-        x,
-        i,
+        by_child,
+        &ends,
+        &has,
+        &state,
         other,
-        &mut par,
-        &mut has,
-        &mut state,
-    );
-    carried(time, &par, &has, &state, other, u)
+        x,
+        u,
+    )
 }
 
 // The allele of the fish b at site row i, of tables that the check does not refuse.
 fn read_allele(
+    len: u32,
     time: &[u32],
     birth: &[u32],
     left: &[u32],
@@ -215,30 +178,32 @@ fn read_allele(
     site: &[u32],
     node: &[u32],
     derived: &[u8],
+    by_child: &[u32],
     i: u32,
     b: u32,
 ) -> Allele
     requires { ⌜
-        Readable
+        Readable len
         (tables
         (nodeTable (now time) (now birth))
         (edgeTable (now left) (now right) (now parent) (now child))
         (siteTable (now position) (now ancestral))
-        (mutationTable (now site) (now node) (now derived))) ⌝ }
+        (mutationTable (now site) (now node) (now derived))) (now «by_child») ⌝ }
     ensures { λ r. ⌜
-        ((L : ℕ) → alleleOf r
-        ≡ readAllele L
+        alleleOf r
+        ≡ readAllele len
         (tables
         (nodeTable (now (time .entry)) (now (birth .entry)))
         (edgeTable (now (left .entry)) (now (right .entry)) (now (parent .entry)) (now (child .entry)))
         (siteTable (now (position .entry)) (now (ancestral .entry)))
-        (mutationTable (now (site .entry)) (now (node .entry)) (now (derived .entry)))) i b) ⌝ }
+        (mutationTable (now (site .entry)) (now (node .entry)) (now (derived .entry)))) i b ⌝ }
 {
     if position.len() <= i as usize {
         return Allele::Refused(Refusal::NoSite);
     }
     match row_of(birth, b) {
         Found::At(u) => Allele::State(state_of(
+            len,
             time,
             birth,
             left,
@@ -250,10 +215,76 @@ fn read_allele(
             site,
             node,
             derived,
+            by_child,
             i,
             u,
         )),
         Found::Nothing => Allele::Refused(Refusal::NoBirth),
+    }
+}
+
+// The check of the tables, which leaves the order of the edges by child in a lent column, and then the allele.
+fn allele_lent(
+    len: u32,
+    time: &[u32],
+    birth: &[u32],
+    left: &[u32],
+    right: &[u32],
+    parent: &[u32],
+    child: &[u32],
+    position: &[u32],
+    ancestral: &[u8],
+    site: &[u32],
+    node: &[u32],
+    derived: &[u8],
+    by_child: &mut [u32],
+    i: u32,
+    b: u32,
+) -> Allele
+    requires { ⌜ length (now «by_child») ≡ 4096 ⌝ }
+    ensures { λ r. ⌜
+        alleleOf r
+        ≡ allele limits len
+        (tables
+        (nodeTable (now (time .entry)) (now (birth .entry)))
+        (edgeTable (now (left .entry)) (now (right .entry)) (now (parent .entry)) (now (child .entry)))
+        (siteTable (now (position .entry)) (now (ancestral .entry)))
+        (mutationTable (now (site .entry)) (now (node .entry)) (now (derived .entry)))) i b ⌝ }
+{
+    let n = left.len();
+    match checker::check_lent(
+        len,
+        time,
+        birth,
+        left,
+        right,
+        parent,
+        child,
+        position,
+        ancestral,
+        site,
+        node,
+        derived,
+        by_child,
+    ) {
+        Checked::Refused(r) => Allele::Refused(r),
+        Checked::Sound => read_allele(
+            len,
+            time,
+            birth,
+            left,
+            right,
+            parent,
+            child,
+            position,
+            ancestral,
+            site,
+            node,
+            derived,
+            &by_child[..n],
+            i,
+            b,
+        ),
     }
 }
 
@@ -283,7 +314,8 @@ pub fn allele(
         (siteTable (now (position .entry)) (now (ancestral .entry)))
         (mutationTable (now (site .entry)) (now (node .entry)) (now (derived .entry)))) i b ⌝ }
 {
-    match checker::check_tables(
+    let mut by_child = [0u32; meaning::EdgeTable::MOST];
+    allele_lent(
         len,
         time,
         birth,
@@ -296,22 +328,8 @@ pub fn allele(
         site,
         node,
         derived,
-    ) {
-        Checked::Refused(r) => Allele::Refused(r),
-        Checked::Sound => read_allele(
-            time,
-            birth,
-            left,
-            right,
-            parent,
-            child,
-            position,
-            ancestral,
-            site,
-            node,
-            derived,
-            i,
-            b,
-        ),
-    }
+        &mut by_child,
+        i,
+        b,
+    )
 }

@@ -1,6 +1,6 @@
--- `alleles::state_of` meets its contract: the columns of the site tell the allele.
+-- `alleles::state_of` meets its contract: the columns of the site and the way up tell the allele.
 use mathlib.Core.Path.{refl, _∙_}
-use Rattle.alleles.specs.ByRows.{fillable, climbs, carried-allele}
+use Rattle.alleles.specs.ByRows.{naming, climbs, carried-allele}
 use borrow.Author.Needs.{needs}
 use Rattle.alleles.proofs.state_of.Statement.{statement}
 use Rattle.alleles.proofs.state_of.Tie as tie
@@ -14,17 +14,22 @@ shared-slice-read-x c = search needs
 shared-slice-read-other : tie.Need-shared-slice-read-other
 shared-slice-read-other c = search needs
 
-slice-aggregate-open-site : tie.Need-slice-aggregate-open-site
-slice-aggregate-open-site c = search needs
+slice-aggregate-fill-ends : tie.Need-slice-aggregate-fill-ends
+slice-aggregate-fill-ends c = search needs
 
-slice-aggregate-open-site-2 : tie.Need-slice-aggregate-open-site-2
-slice-aggregate-open-site-2 c = search needs
+fill-ends-requires : tie.Need-fill-ends-requires
+fill-ends-requires c κs = search needs
 
-slice-aggregate-open-site-3 : tie.Need-slice-aggregate-open-site-3
-slice-aggregate-open-site-3 c = search needs
+slice-aggregate-marks-at : tie.Need-slice-aggregate-marks-at
+slice-aggregate-marks-at c = search needs
 
-open-site-requires : tie.Need-open-site-requires
-open-site-requires c κs = fillable _ (c .before .before .before .before .before .before .before .before .before .before .before .before .before .before .before .before .pre .0) 1024 (c .before .before .before .before .before .before .before .before .before .before .before .before .before .before .before .before .pre .0 .few) _ _ _ refl refl refl
+slice-aggregate-marks-at-2 : tie.Need-slice-aggregate-marks-at-2
+slice-aggregate-marks-at-2 c = search needs
+
+marks-at-requires : tie.Need-marks-at-requires
+marks-at-requires c κs =
+    let p : _ = c .before .before .before .before .before .before .before .before .before .before .before .before .before .before .before .before .before .before .before .pre in
+    (naming _ _ _ (p .0) _ 1024 (p .1) (p .0 .few), refl)
 
 slice-aggregate-carried : tie.Need-slice-aggregate-carried
 slice-aggregate-carried c = search needs
@@ -37,13 +42,13 @@ slice-aggregate-carried-3 c = search needs
 
 carried-requires : tie.Need-carried-requires
 carried-requires c κs =
-    let p : _ = c .before .before .before .before .before .before .before .before .before .before .before .before .before .before .before .before .before .before .before .before .before .before .before .pre in
-    climbs _ (p .0) _ _ (p .1) (p .0 .few) _ _ _ (c .before .before .before .before .before .before .open-site .ensures) _ (p .2)
+    let p : _ = c .before .before .before .before .before .before .before .before .before .before .before .before .before .before .before .before .before .before .before .before .before .before .before .before .before .pre in
+    climbs _ _ _ (p .0) _ 1024 (p .1) (p .0 .few) _ _ (c .before .before .before .before .before .marks-at .ensures .0) (c .before .before .before .before .before .marks-at .ensures .1) _ (c .before .before .before .before .before .before .before .before .before .fill-ends .kept .1 .1 .1 .1 .1 .0) (c .before .before .before .before .before .before .before .before .before .fill-ends .ensures) _ (p .2)
 
 returns : tie.Need-returns
 returns c =
-    let p : _ = c .before .before .before .before .before .before .before .before .before .before .before .before .before .before .before .before .before .before .before .before .before .before .before .before .pre in
-    λ L. c .carried .ensures ∙ carried-allele _ (p .0) _ _ (p .1) (p .0 .few) _ _ _ (c .before .before .before .before .before .before .before .open-site .ensures) L _ (p .2)
+    let p : _ = c .before .before .before .before .before .before .before .before .before .before .before .before .before .before .before .before .before .before .before .before .before .before .before .before .before .before .pre in
+    c .carried .ensures ∙ carried-allele _ _ _ (p .0) _ 1024 (p .1) (p .0 .few) _ _ (c .before .before .before .before .before .before .marks-at .ensures .0) (c .before .before .before .before .before .before .marks-at .ensures .1) _ (p .2)
 
 pub state-of-spec : {M : Type 1} → statement M
 state-of-spec =
@@ -52,10 +57,11 @@ state-of-spec =
     mul-x
     shared-slice-read-x
     shared-slice-read-other
-    slice-aggregate-open-site
-    slice-aggregate-open-site-2
-    slice-aggregate-open-site-3
-    open-site-requires
+    slice-aggregate-fill-ends
+    fill-ends-requires
+    slice-aggregate-marks-at
+    slice-aggregate-marks-at-2
+    marks-at-requires
     slice-aggregate-carried
     slice-aggregate-carried-2
     slice-aggregate-carried-3
