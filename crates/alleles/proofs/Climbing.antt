@@ -12,9 +12,10 @@ use Rattle.meaning.specs.Words.{at, count, rows}
 use Rattle.meaning.specs.Rows.{EdgeColumns}
 use Rattle.meaning.specs.Forest.{Ages, near}
 use Rattle.laws.specs.Counting.{length-rows, lowest-le}
+use Rattle.bridge.specs.Parents.{no-row, code, parentRow}
 use Rattle.bridge.specs.Rename.{near-here, near-top, near-step, near-inside}
 use Rattle.ancestry.specs.declared.Stretch.{Stretch}
-use Rattle.ancestry.specs.Column.{no-row, code, parentRow, older}
+use Rattle.ancestry.specs.Column.{older}
 use Rattle.ancestry.specs.Older.{older-falls}
 use Rattle.ancestry.specs.Marks.{marked}
 use Rattle.ancestry.specs.Coded.{parent-rises}

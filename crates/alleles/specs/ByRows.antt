@@ -12,10 +12,10 @@ use Rattle.meaning.specs.Rows.{EdgeColumns, MutationColumns, Tables, Record, re
 use Rattle.meaning.specs.Forest.{Ages, parentIn, near}
 use Rattle.meaning.specs.Allele.{carries, lastState, alleleAt}
 use Rattle.laws.specs.Counting.{length-rows, get-rows}
+use Rattle.bridge.specs.Parents.{parentRow}
 use Rattle.bridge.specs.Rename.{mapOption, Renamed, near-names, near-inside}
 use Rattle.bridge.specs.Columns.{Within, parent-names}
 use Rattle.bridge.specs.Sites.{pos-at, state-at, carries-names, last-names}
-use Rattle.ancestry.specs.Column.{parentRow}
 use Rattle.ancestry.specs.Marks.{marked}
 use Rattle.ancestry.specs.Index.{Ends}
 use Rattle.ancestry.specs.Coded.{parent-rises}

@@ -8,9 +8,10 @@ use Rattle.meaning.specs.Words.{at}
 use Rattle.meaning.specs.Rows.{EdgeColumns, Tables}
 use Rattle.meaning.specs.Forest.{Ages, near}
 use Rattle.meaning.specs.Answer.{limits}
+use Rattle.bridge.specs.Parents.{no-row, code, parentRow}
 use Rattle.bridge.specs.Columns.{Apart}
 use Rattle.rules.specs.ByChild.{ByChild}
-use Rattle.ancestry.specs.Column.{no-row, code, parentRow, older, Rising}
+use Rattle.ancestry.specs.Column.{older, Rising}
 use Rattle.ancestry.specs.Marks.{marked}
 use Rattle.ancestry.specs.Index.{Whole, Indexed}
 use Rattle.ancestry.specs.Stretch.{nearUntil}

@@ -5,7 +5,8 @@ use Prim.Native.Nat.{ℕ, _<_, _≤_, min}
 use lib.ListN.{length}
 use Rattle.meaning.specs.Rows.{EdgeColumns}
 use Rattle.meaning.specs.Forest.{near}
-use Rattle.ancestry.specs.Column.{code, parentRow, older}
+use Rattle.bridge.specs.Parents.{code, parentRow}
+use Rattle.ancestry.specs.Column.{older}
 use Rattle.ancestry.specs.Marks.{marked}
 use Rattle.ancestry.specs.Stretch.{nearUntil}
 use Rattle.alleles.specs.declared.Carrier.{Carrier}

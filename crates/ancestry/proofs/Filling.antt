@@ -15,7 +15,7 @@ use Rattle.meaning.specs.Rows.{EdgeColumns, edgesOf}
 use Rattle.meaning.specs.Forest.{holds, parentIn}
 use Rattle.laws.specs.Bools.{eq?}
 use Rattle.laws.specs.Counting.{length-rows, get-rows}
-use Rattle.ancestry.specs.Column.{no-row, code, parentRow}
+use Rattle.bridge.specs.Parents.{no-row, code, parentRow}
 use Rattle.ancestry.specs.Decided.{rowOf}
 
 -- a column filled up to its end is filled

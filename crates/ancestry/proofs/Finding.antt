@@ -8,7 +8,7 @@ use lib.ListN.{length}
 use borrow.Author.Tests.{lt-ltb, le-ltb}
 use Rattle.meaning.specs.Words.{at}
 use Rattle.laws.specs.Bools.{eq?}
-use Rattle.ancestry.specs.Column.{no-row}
+use Rattle.bridge.specs.Parents.{no-row}
 use Rattle.ancestry.specs.Index.{begins}
 use Rattle.ancestry.specs.declared.Stretch.{Stretch}
 use Rattle.ancestry.specs.Lookup.{Lefts, Halved, After, gapEnd, noneUntil, Linked, Chained, Carried}

@@ -14,7 +14,8 @@ use Rattle.meaning.specs.Words.{or, at, rows}
 use Rattle.meaning.specs.Forest.{Par, Ages, ancestor}
 use Rattle.laws.specs.Bools.{clash, eq?, some-inj, none-some, or-left, or-right}
 use Rattle.laws.specs.Counting.{length-rows, get-rows}
-use Rattle.ancestry.specs.Column.{no-row, parOf, older}
+use Rattle.bridge.specs.Parents.{no-row}
+use Rattle.ancestry.specs.Column.{parOf, older}
 use Rattle.ancestry.specs.Coded.{cell-none, cell-some}
 use Rattle.ancestry.specs.Older.{older-falls}
 use Rattle.ancestry.specs.Ancestors.{Above, here, step, Aged, ancestor-of, ancestor-none, ancestor-step}

@@ -9,7 +9,8 @@ use lib.ListN.{length}
 use Rattle.meaning.specs.Words.{at}
 use Rattle.meaning.specs.Rows.{EdgeColumns}
 use Rattle.laws.specs.Bools.{eq?, some-inj, none-some}
-use Rattle.ancestry.specs.Column.{code, parentRow, Even}
+use Rattle.bridge.specs.Parents.{code, parentRow}
+use Rattle.ancestry.specs.Column.{Even}
 use Rattle.ancestry.specs.Index.{begins, Indexed}
 use Rattle.ancestry.specs.Stretch.{until, stretchAt}
 use Rattle.ancestry.specs.Holds.{until-is}

@@ -13,7 +13,8 @@ use Rattle.meaning.specs.Words.{at, rows}
 use Rattle.meaning.specs.Rows.{EdgeColumns}
 use Rattle.meaning.specs.Forest.{Par}
 use Rattle.laws.specs.Counting.{length-rows, get-rows}
-use Rattle.ancestry.specs.Column.{no-row, code, parOf, parentRow, Rising}
+use Rattle.bridge.specs.Parents.{no-row, code, parentRow}
+use Rattle.ancestry.specs.Column.{parOf, Rising}
 use Rattle.ancestry.specs.Marks.{Upward}
 use Rattle.ancestry.specs.Decided.{parent-decided}
 

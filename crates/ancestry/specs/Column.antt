@@ -7,26 +7,13 @@ use Prim.Native.Nat.{ℕ, _<_}
 use lib.Dec.{eqb, ltb}
 use lib.ListN.{length, getD}
 use Rattle.meaning.specs.Words.{at, count, rows}
-use Rattle.meaning.specs.Rows.{EdgeColumns, edgesOf}
-use Rattle.meaning.specs.Forest.{Par, parentIn}
-
--- the cell that means none: no node has this row
-abbrev pub no-row : ℕ
-no-row = 4294967295
-
--- a row or none, as a cell
-unfoldable pub code : Option ℕ → ℕ
-code none = no-row
-code (some p) = p
+use Rattle.meaning.specs.Rows.{EdgeColumns}
+use Rattle.meaning.specs.Forest.{Par}
+use Rattle.bridge.specs.Parents.{no-row}
 
 -- the forest of rows that a column of cells codes; a row past its end has no parent
 unfoldable pub parOf : List ℕ → Par
 parOf par u = elim (eqb (getD par u no-row) no-row) [ true ↦ none | false ↦ some (getD par u no-row) ]
-
--- the parent row of row u at x
-unfoldable pub parentRow : EdgeColumns → ℕ → Par
-unfolding parentIn edgesOf
-parentRow E x u = parentIn (edgesOf (λ r. r) E) x u
 
 -- the number of rows older than row u
 unfoldable pub older : List ℕ → ℕ → ℕ

@@ -12,7 +12,7 @@ use Rattle.meaning.specs.Words.{and, at, rows, rowsFrom}
 use Rattle.meaning.specs.Rows.{EdgeColumns, Edge, edgesOf}
 use Rattle.meaning.specs.Forest.{holds, parentIn}
 use Rattle.laws.specs.Bools.{clash, and-of, and-yes, eq?}
-use Rattle.ancestry.specs.Column.{parentRow}
+use Rattle.bridge.specs.Parents.{parentRow}
 
 -- edge row i as it stands in the columns
 abbrev pub rowOf : EdgeColumns → ℕ → Edge

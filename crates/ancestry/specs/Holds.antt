@@ -11,8 +11,8 @@ use Rattle.meaning.specs.Rows.{EdgeColumns}
 use Rattle.meaning.specs.Forest.{near}
 use Rattle.laws.specs.Bools.{clash, truth, eq?, and-of, and-yes, not-of, not-true}
 use Rattle.laws.specs.Counting.{lowest-le, before-lowest, lowest-passes, lowest-is, lowest-none}
+use Rattle.bridge.specs.Parents.{parentRow}
 use Rattle.bridge.specs.Rename.{near-here, near-end, near-top, near-step}
-use Rattle.ancestry.specs.Column.{parentRow}
 use Rattle.ancestry.specs.Stretch.{same, another, until, nearUntil}
 
 -- ---- two answers

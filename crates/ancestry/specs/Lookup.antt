@@ -7,7 +7,7 @@ use lib.Dec.{ltb}
 use lib.ListN.{length}
 use Rattle.meaning.specs.Words.{at}
 use Rattle.meaning.specs.Rows.{EdgeColumns}
-use Rattle.ancestry.specs.Column.{no-row}
+use Rattle.bridge.specs.Parents.{no-row}
 use Rattle.ancestry.specs.declared.Stretch.{Stretch}
 
 -- the places from low up to high have row u's edges, all of them, and one ends before the next begins

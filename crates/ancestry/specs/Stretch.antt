@@ -5,7 +5,7 @@ use Prim.Native.Nat.{ℕ, zero, suc, min}
 use lib.Dec.{eqb, leb}
 use Rattle.meaning.specs.Words.{and, lowest}
 use Rattle.meaning.specs.Rows.{EdgeColumns}
-use Rattle.ancestry.specs.Column.{code, parentRow}
+use Rattle.bridge.specs.Parents.{code, parentRow}
 use Rattle.ancestry.specs.declared.Stretch.{Stretch}
 
 -- two answers are one: the same row, or none both times

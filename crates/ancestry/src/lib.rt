@@ -4,7 +4,8 @@ ghost use Prim.Native.Nat.{ℕ, _<_, _≤_};
 ghost use lib.ListN.{length, replicate};
 ghost use Rattle.meaning.specs.Words.{rows};
 ghost use Rattle.meaning.specs.Rows.{EdgeColumns, edgeTable};
-ghost use Rattle.ancestry.specs.Column.{code, parOf, parentRow, Fitting};
+ghost use Rattle.bridge.specs.Parents.{code, parentRow};
+ghost use Rattle.ancestry.specs.Column.{parOf, Fitting};
 ghost use Rattle.ancestry.specs.Marks.{Markable, MarkedUp};
 
 pub mod index; // the end of each row's edges among the edges by child

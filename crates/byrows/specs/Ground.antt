@@ -16,13 +16,14 @@ use Rattle.laws.specs.Bools.{clash}
 use Rattle.laws.specs.Counting.{length-rows, rows-at, map-rows}
 use Rattle.laws.specs.Members.{mem-here, mem-there, mem-cases, mem-nil, at-mem, index-at, index-below}
 use Rattle.laws.specs.Facts.{In, Distinct, All, done, also, CleanOk}
+use Rattle.bridge.specs.Parents.{parentRow}
 use Rattle.accepted.specs.Checked.{Sound, Listed, Apart}
 use Rattle.accepted.specs.Columns.{all-rows, distinct-of, same-row, births-of, time-of}
 use Rattle.accepted.specs.Records.{Young, clean-ok-of}
 use Rattle.bridge.specs.Rename.{mapOption, Renamed}
 use Rattle.bridge.specs.Columns.{Within, renamed}
 use Rattle.byrows.specs.Named.{reached-names, stands-names, drawn-names, low-names, low-within}
-use Rattle.byrows.specs.Rows.{allRows, sampleRows, forestRow, reachedRow, standsRow, upRow, lowRow}
+use Rattle.byrows.specs.Rows.{allRows, sampleRows, reachedRow, standsRow, upRow, lowRow}
 
 -- every member of a list of numbers passes
 pub all-mem : {Q : ℕ → Type 0} (l : List ℕ) → ((b : ℕ) → mem b l ≡ true → Q b) → All Q l
@@ -118,19 +119,19 @@ module _ (m : Limits) (L : ℕ) (T : Tables) (S : List ℕ) (g : Ground m L T S)
     abbrev P' : Par
     P' = parentIn (R .edges) x
 
-    ren : Renamed n (at birth) (forestRow E x) P'
-    unfolding forestRow recordOf
+    ren : Renamed n (at birth) (parentRow E x) P'
+    unfolding parentRow recordOf
     ren = renamed birth E once within x
 
     reached-row : (u : ℕ) → u < n → reached P' S (at birth u) ≡ reachedRow E SR x u
     unfolding reachedRow
-    reached-row u l = ap (λ z. reached P' z (at birth u)) (sym sample-names) ∙ reached-names n (at birth) (forestRow E x) P' ren SR samples-inside u l
+    reached-row u l = ap (λ z. reached P' z (at birth u)) (sym sample-names) ∙ reached-names n (at birth) (parentRow E x) P' ren SR samples-inside u l
 
     pub stands-row : (u : ℕ) → u < n → standsAt stands R S x (at birth u) ≡ standsRow E n SR x u
     unfolding standsAt standsRow
     stands-row u l =
         ap₂ (λ z w. stands z P' w (at birth u)) (births-are ∙ sym names) (sym sample-names)
-        ∙ stands-names n (at birth) (forestRow E x) P' ren SR samples-inside (allRows n) rows-inside u l
+        ∙ stands-names n (at birth) (parentRow E x) P' ren SR samples-inside (allRows n) rows-inside u l
 
     -- the cleaned forest by births, written out
     pub birth-forest : (b : ℕ) → drawn P' (stands (births (R .nodes)) P' S) b ≡ forestAt stands R S x b
@@ -140,15 +141,15 @@ module _ (m : Limits) (L : ℕ) (T : Tables) (S : List ℕ) (g : Ground m L T S)
     -- the output parent by births is the name of the output parent by rows
     pub up-row : (u : ℕ) → u < n → forestAt stands R S x (at birth u) ≡ mapOption (at birth) (upRow E n SR x u)
     unfolding forestAt upRow
-    up-row u l = drawn-names n (at birth) (forestRow E x) P' ren (standsRow E n SR x) (standsAt stands R S x) stands-row u l
+    up-row u l = drawn-names n (at birth) (parentRow E x) P' ren (standsRow E n SR x) (standsAt stands R S x) stands-row u l
 
     pub low-row : (u : ℕ) → u < n → lowAt stands R S x (at birth u) ≡ mapOption (at birth) (lowRow E n SR x u)
     unfolding lowAt lowRow
     low-row u l =
         ap (λ z. low z P' (reached P' S) (standsAt stands R S x) Ages (at birth u)) (births-are ∙ sym names)
-        ∙ low-names n (at birth) (forestRow E x) P' ren (standsRow E n SR x) (standsAt stands R S x) stands-row (reachedRow E SR x) (reached P' S) reached-row (allRows n) rows-inside Ages u l
+        ∙ low-names n (at birth) (parentRow E x) P' ren (standsRow E n SR x) (standsAt stands R S x) stands-row (reachedRow E SR x) (reached P' S) reached-row (allRows n) rows-inside Ages u l
 
     -- where the mutations of a row go is a row
     pub low-inside : (u w : ℕ) → u < n → lowRow E n SR x u ≡ some w → w < n
     unfolding lowRow
-    low-inside u w l h = low-within n (forestRow E x) (reachedRow E SR x) (standsRow E n SR x) (allRows n) rows-inside Ages u w l h
+    low-inside u w l h = low-within n (parentRow E x) (reachedRow E SR x) (standsRow E n SR x) (allRows n) rows-inside Ages u w l h

@@ -16,6 +16,7 @@ use Rattle.meaning.specs.Clean.{before, standsAt, forestAt, others, kept, edges
 use Rattle.laws.specs.Bools.{clash, bool-ext, some-inj, none-some}
 use Rattle.laws.specs.Members.{mem-here, mem-there, mem-cases, mem-nil}
 use Rattle.laws.specs.Facts.{Distinct, Any, now, later, All, done, also, Cov}
+use Rattle.bridge.specs.Parents.{parentRow}
 use Rattle.forest.specs.Profile.{stands-profile}
 use Rattle.history.specs.Order.{Sorted, none-left, least, sorted-unique, before-order}
 use Rattle.history.specs.Kept.{chosen, not-sample, somewhere, of-somewhere, others-of, of-others, others-sorted, kept-distinct}
@@ -26,7 +27,7 @@ use Rattle.encoding.specs.Edges.{byKey, Whole, Covers, the-edges}
 use Rattle.bridge.specs.Rename.{mapOption, eqb-names, near-inside}
 use Rattle.bridge.specs.Columns.{parent-inside}
 use Rattle.byrows.specs.Named.{mem-names}
-use Rattle.byrows.specs.Rows.{allRows, sampleRows, forestRow, standsRow, upRow, beforeRow, rowKey}
+use Rattle.byrows.specs.Rows.{allRows, sampleRows, standsRow, upRow, beforeRow, rowKey}
 use Rattle.byrows.specs.Ground.{Ground, mem-all, births-are, sample-names, samples-inside, once, within, row-name, row-fish, row-time, stands-row, up-row, clean-ok, birth-forest}
 
 -- ---- lists under a map
@@ -134,14 +135,14 @@ module _ (m : Limits) (L : ℕ) (T : Tables) (S : List ℕ) (g : Ground m L T S)
 
   -- ---- the edges
 
-  rows-in : (x u p : ℕ) → u < n → forestRow (T .edges) x u ≡ some p → p < n
-  unfolding forestRow
+  rows-in : (x u p : ℕ) → u < n → parentRow (T .edges) x u ≡ some p → p < n
+  unfolding parentRow
   rows-in x u p l h = parent-inside n (T .edges) (within m L T S g) x u p h
 
-  climbed-inside : (x u p : ℕ) → u < n → (o : Option ℕ) → forestRow (T .edges) x u ≡ o → up (forestRow (T .edges) x) (standsRow (T .edges) n SR x) u ≡ some p → p < n
+  climbed-inside : (x u p : ℕ) → u < n → (o : Option ℕ) → parentRow (T .edges) x u ≡ o → up (parentRow (T .edges) x) (standsRow (T .edges) n SR x) u ≡ some p → p < n
   unfolding up
   climbed-inside x u p l none e k = absurd (none-some refl (rw (e, up) at k))
-  climbed-inside x u p l (some q) e k = near-inside n (forestRow (T .edges) x) (rows-in x) (standsRow (T .edges) n SR x) Ages q p (rows-in x u q l e) (rw (e, up) at k) .0
+  climbed-inside x u p l (some q) e k = near-inside n (parentRow (T .edges) x) (rows-in x) (standsRow (T .edges) n SR x) Ages q p (rows-in x u q l e) (rw (e, up) at k) .0
 
   -- an output parent is a row
   pub up-inside : (x u p : ℕ) → u < n → upRow (T .edges) n SR x u ≡ some p → p < n
@@ -149,7 +150,7 @@ module _ (m : Limits) (L : ℕ) (T : Tables) (S : List ℕ) (g : Ground m L T S)
   up-inside x u p l h = inside (standsRow (T .edges) n SR x u) refl
     where
       inside : (t : Bool) → standsRow (T .edges) n SR x u ≡ t → p < n
-      inside true e = climbed-inside x u p l (forestRow (T .edges) x u) refl (rw (e, drawn) at h)
+      inside true e = climbed-inside x u p l (parentRow (T .edges) x u) refl (rw (e, drawn) at h)
       inside false e = absurd (none-some refl (rw (e, drawn) at h))
 
   is-rows : (o : Option ℕ) (u : ℕ) → ((p : ℕ) → o ≡ some p → p < n) → u < n → is (mapOption f o) (f u) ≡ is o u

@@ -4,8 +4,9 @@ use mathlib.Core.List.{List, [], _∷_, _++_, map}
 use mathlib.Core.Option.{Option, none, some}
 use Prim.Native.Nat.{ℕ}
 use Rattle.meaning.specs.Words.{at, rows, lex, indexOf}
-use Rattle.meaning.specs.Rows.{NodeColumns, EdgeColumns, Edge, edgesOf}
-use Rattle.meaning.specs.Forest.{Par, Ages, parentIn, reached, stands, low, drawn}
+use Rattle.meaning.specs.Rows.{NodeColumns, EdgeColumns, Edge}
+use Rattle.meaning.specs.Forest.{Par, Ages, reached, stands, low, drawn}
+use Rattle.bridge.specs.Parents.{parentRow}
 
 -- the rows of n nodes
 unfoldable pub allRows : ℕ → List ℕ
@@ -17,30 +18,25 @@ unfoldable pub sampleRows : List ℕ → List ℕ → List ℕ
 unfolding indexOf
 sampleRows birth S = map (λ b. indexOf b birth) S
 
--- the forest of rows at x
-unfoldable pub forestRow : EdgeColumns → ℕ → Par
-unfolding parentIn edgesOf
-forestRow E x = parentIn (edgesOf (λ r. r) E) x
-
 -- S are rows from here on
 
 unfoldable pub reachedRow : EdgeColumns → List ℕ → ℕ → ℕ → Bool
-unfolding reached forestRow
-reachedRow E S x u = reached (forestRow E x) S u
+unfolding reached parentRow
+reachedRow E S x u = reached (parentRow E x) S u
 
 unfoldable pub standsRow : EdgeColumns → ℕ → List ℕ → ℕ → ℕ → Bool
-unfolding stands forestRow allRows
-standsRow E n S x u = stands (allRows n) (forestRow E x) S u
+unfolding stands parentRow allRows
+standsRow E n S x u = stands (allRows n) (parentRow E x) S u
 
 -- the output parent of a standing row
 unfoldable pub upRow : EdgeColumns → ℕ → List ℕ → ℕ → Par
-unfolding drawn forestRow standsRow
-upRow E n S x = drawn (forestRow E x) (standsRow E n S x)
+unfolding drawn parentRow standsRow
+upRow E n S x = drawn (parentRow E x) (standsRow E n S x)
 
 -- the nearest standing row at or below a reached one
 unfoldable pub lowRow : EdgeColumns → ℕ → List ℕ → ℕ → ℕ → Option ℕ
-unfolding low forestRow reachedRow standsRow allRows
-lowRow E n S x u = low (allRows n) (forestRow E x) (reachedRow E S x) (standsRow E n S x) Ages u
+unfolding low parentRow reachedRow standsRow allRows
+lowRow E n S x u = low (allRows n) (parentRow E x) (reachedRow E S x) (standsRow E n S x) Ages u
 
 -- rows by (time, birth)
 unfoldable pub beforeRow : NodeColumns → ℕ → ℕ → Bool

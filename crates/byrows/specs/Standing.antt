@@ -15,6 +15,7 @@ use Rattle.laws.specs.Bools.{clash, truth, eq?, not-true}
 use Rattle.laws.specs.Members.{at-mem}
 use Rattle.laws.specs.Counting.{length-rows, get-rows}
 use Rattle.laws.specs.Facts.{In, Distinct}
+use Rattle.bridge.specs.Parents.{parentRow}
 use Rattle.forest.specs.Lines.{Above, here, step, Ranked, trans, rank-le, antisym}
 use Rattle.forest.specs.Contract.{Reached, Stands, sample, two, Up, Low, Contract, near-in}
 use Rattle.forest.specs.TreeLaws.{Aged, Nodes, stands-of, drawn-contract}
@@ -23,7 +24,7 @@ use Rattle.forest.specs.Code.{up-here, up-on}
 use Rattle.accepted.specs.Columns.{distinct-of}
 use Rattle.accepted.specs.Records.{Row, row-of}
 use Rattle.history.specs.Encode.{parent-of}
-use Rattle.byrows.specs.Rows.{allRows, sampleRows, forestRow, standsRow, upRow}
+use Rattle.byrows.specs.Rows.{allRows, sampleRows, standsRow, upRow}
 use Rattle.byrows.specs.Ground.{Ground, mem-all, rows-inside}
 
 -- ---- at one position
@@ -71,23 +72,23 @@ module _ (m : Limits) (L : ℕ) (T : Tables) (S : List ℕ) (g : Ground m L T S)
   SR = sampleRows (T .nodes .birth) S
 
   -- the edge row that gives a row its parent
-  edge-of : (b p : ℕ) → forestRow (T .edges) x b ≡ some p → (i : ℕ) × Row (λ r. r) (T .edges) x b p i
-  unfolding forestRow
+  edge-of : (b p : ℕ) → parentRow (T .edges) x b ≡ some p → (i : ℕ) × Row (λ r. r) (T .edges) x b p i
+  unfolding parentRow
   edge-of b p e = row-of (λ r. r) (T .edges) x b p (parent-of x b (edgesOf (λ r. r) (T .edges)) p e)
 
-  older : (b p : ℕ) → forestRow (T .edges) x b ≡ some p → at (T .nodes .time) b < at (T .nodes .time) p
+  older : (b p : ℕ) → parentRow (T .edges) x b ≡ some p → at (T .nodes .time) b < at (T .nodes .time) p
   older b p e =
       let r : _ = edge-of b p e in
       omega (arith, g .sound .tree .edge (r .0) (r .1 .is-row) .older, ap (at (T .nodes .time)) (r .1 .of-child), ap (at (T .nodes .time)) (r .1 .to-parent))
 
-  pub parent-is-row : (b p : ℕ) → forestRow (T .edges) x b ≡ some p → (b < n) × (p < n)
+  pub parent-is-row : (b p : ℕ) → parentRow (T .edges) x b ≡ some p → (b < n) × (p < n)
   parent-is-row b p e =
       let r : _ = edge-of b p e in
       let q : _ = g .sound .tree .edge (r .0) (r .1 .is-row) in
       (omega (arith, q .child-row, r .1 .of-child, g .sound .shape .births), omega (arith, q .parent-row, r .1 .to-parent, g .sound .shape .births))
 
   -- times rise along the forest of rows
-  pub rows-aged : Aged (forestRow (T .edges) x) (at (T .nodes .time))
+  pub rows-aged : Aged (parentRow (T .edges) x) (at (T .nodes .time))
   rows-aged = record {
     ranked = record { grows = λ {b} {p} e. older b p e };
     bound = λ {b} {p} e. g .young p (omega (arith, parent-is-row b p e .1, g .sound .shape .births));
@@ -104,20 +105,20 @@ module _ (m : Limits) (L : ℕ) (T : Tables) (S : List ℕ) (g : Ground m L T S)
   unfolding allRows
   rows-once = distinct-of (rows (λ i. i) n) (λ i j l k e. omega (arith, get-rows (λ i. i) 0 n i (omega (arith, length-rows (λ i. i) n)), get-rows (λ i. i) 0 n j (omega (arith, length-rows (λ i. i) n))))
 
-  pub rows-nodes : Nodes (forestRow (T .edges) x) (allRows n)
+  pub rows-nodes : Nodes (parentRow (T .edges) x) (allRows n)
   rows-nodes = record { once = rows-once; listed = λ {b} {p} e. row-listed b (parent-is-row b p e .0) }
 
   -- a row that stands and is no sample is the output parent of some row
   pub stands-parent : (v : ℕ) → standsRow (T .edges) n SR x v ≡ true → mem v SR ≡ false → (c : ℕ) × (c < n) × (upRow (T .edges) n SR x c ≡ some v)
   unfolding standsRow upRow
   stands-parent v k q =
-      let r : _ = standing-parent (forestRow (T .edges) x) (at (T .nodes .time)) rows-aged (allRows n) rows-nodes SR v k q in
-      (r .0, child-row (r .0) v (drawn-contract (forestRow (T .edges) x) (stands (allRows n) (forestRow (T .edges) x) SR) (at (T .nodes .time)) rows-aged .into (r .1)), r .1)
+      let r : _ = standing-parent (parentRow (T .edges) x) (at (T .nodes .time)) rows-aged (allRows n) rows-nodes SR v k q in
+      (r .0, child-row (r .0) v (drawn-contract (parentRow (T .edges) x) (stands (allRows n) (parentRow (T .edges) x) SR) (at (T .nodes .time)) rows-aged .into (r .1)), r .1)
     where
-      child-row : (c w : ℕ) → Up (forestRow (T .edges) x) (stands (allRows n) (forestRow (T .edges) x) SR) w c → c < n
+      child-row : (c w : ℕ) → Up (parentRow (T .edges) x) (stands (allRows n) (parentRow (T .edges) x) SR) w c → c < n
       child-row c w u = parent-is-row c (u .0) (u .1) .0
 
   -- and an output parent stands, as its child does
   pub parent-stands : (c v : ℕ) → upRow (T .edges) n SR x c ≡ some v → (standsRow (T .edges) n SR x c ≡ true) × (standsRow (T .edges) n SR x v ≡ true)
   unfolding standsRow upRow
-  parent-stands c v e = parent-standing (forestRow (T .edges) x) (at (T .nodes .time)) rows-aged (allRows n) rows-nodes SR c v e
+  parent-stands c v e = parent-standing (parentRow (T .edges) x) (at (T .nodes .time)) rows-aged (allRows n) rows-nodes SR c v e

@@ -14,11 +14,11 @@ use Rattle.meaning.specs.Answer.{limits, put}
 use Rattle.meaning.specs.Clean.{moved, rowIn, no-row}
 use Rattle.laws.specs.Counting.{length-rows, get-rows}
 use Rattle.laws.specs.Members.{index-below}
+use Rattle.bridge.specs.Parents.{code}
 use Rattle.byrows.specs.Rows.{allRows, sampleRows, lowRow}
 use Rattle.byrows.specs.Ground.{Ground, low-inside}
 use Rattle.byrows.specs.Kept.{Others}
 use Rattle.byrows.specs.Result.{movedRows}
-use Rattle.runs.specs.Runs.{code}
 use Rattle.writing.specs.Renamed.{renamed}
 use Rattle.writing.specs.Moving.{goes, movedAt}
 use Rattle.cleaner.specs.Reading.{renamed-at, put-at}

@@ -16,12 +16,13 @@ use Rattle.meaning.specs.Clean.{rowIn}
 use Rattle.laws.specs.Counting.{length-rows, get-rows}
 use Rattle.laws.specs.Members.{mem-left, mem-right}
 use Rattle.forest.specs.Lowest.{stands-rule, low-of}
-use Rattle.byrows.specs.Rows.{allRows, sampleRows, forestRow, reachedRow, standsRow, lowRow}
+use Rattle.byrows.specs.Rows.{allRows, sampleRows, reachedRow, standsRow, lowRow}
 use Rattle.byrows.specs.Ground.{Ground}
 use Rattle.byrows.specs.Kept.{Others}
 use Rattle.byrows.specs.Standing.{rows-aged, rows-nodes}
 use Rattle.writing.specs.Renamed.{renamed}
 use Rattle.laws.specs.Members.{at-map}
+use Rattle.bridge.specs.Parents.{parentRow}
 
 pub renamed-row : (names : List ℕ) (v : ℕ) → v < length names → renamed names v ≡ at names v
 unfolding renamed
@@ -54,7 +55,7 @@ module _ (L : ℕ) (T : Tables) (S : List ℕ) (g : Ground limits L T S) (OR : L
   -- where a mutation goes stands
   pub low-stands : (x u w : ℕ) → lowRow (T .edges) n SR x u ≡ some w → standsRow (T .edges) n SR x w ≡ true
   unfolding lowRow reachedRow standsRow
-  low-stands x u w e = low-of (forestRow (T .edges) x) (at (T .nodes .time)) (rows-aged limits L T S g x) (allRows n) (rows-nodes limits L T S g x) SR (stands (allRows n) (forestRow (T .edges) x) SR) (stands-rule (forestRow (T .edges) x) (at (T .nodes .time)) (rows-aged limits L T S g x) (allRows n) (rows-nodes limits L T S g x) SR) Ages w u e .in-set
+  low-stands x u w e = low-of (parentRow (T .edges) x) (at (T .nodes .time)) (rows-aged limits L T S g x) (allRows n) (rows-nodes limits L T S g x) SR (stands (allRows n) (parentRow (T .edges) x) SR) (stands-rule (parentRow (T .edges) x) (at (T .nodes .time)) (rows-aged limits L T S g x) (allRows n) (rows-nodes limits L T S g x) SR) Ages w u e .in-set
 
   -- the name of a row kept is its place
   pub named : (places : List ℕ) → n ≤ length places → take n places ≡ map (rowIn (SR ++ OR)) (allRows n) → (v : ℕ) → v < n → mem v (SR ++ OR) ≡ true → renamed places v ≡ indexOf v (SR ++ OR)

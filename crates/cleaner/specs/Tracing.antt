@@ -7,11 +7,12 @@ use Rattle.meaning.specs.Words.{at, mem, rows}
 use Rattle.meaning.specs.Rows.{NodeColumns, EdgeColumns, Tables, Edge}
 use Rattle.meaning.specs.Answer.{limits, put}
 use Rattle.meaning.specs.Clean.{rowIn}
+use Rattle.bridge.specs.Parents.{code}
 use Rattle.order.specs.Order.{Inside, SortedFrom, byKeys}
 use Rattle.order.specs.Counts.{bit}
 use Rattle.byrows.specs.Rows.{allRows, sampleRows, upRow, lowRow}
 use Rattle.byrows.specs.Ground.{Ground}
-use Rattle.runs.specs.Runs.{code, Store, Collected, Stored}
+use Rattle.runs.specs.Runs.{Store, Collected, Stored}
 use Rattle.keeping.specs.Others.{OthersListed}
 use Rattle.writing.specs.Renamed.{renamed}
 use Rattle.writing.specs.Moving.{movedAt}

@@ -9,7 +9,7 @@ use lib.Seq.{getD-set-same, getD-set-other}
 use Rattle.meaning.specs.Words.{at}
 use Rattle.meaning.specs.Rows.{EdgeColumns}
 use Rattle.laws.specs.Bools.{eq?}
-use Rattle.ancestry.specs.Column.{code, parentRow}
+use Rattle.bridge.specs.Parents.{code, parentRow}
 use Rattle.ancestry.specs.declared.Stretch.{Stretch}
 use Rattle.ancestry.specs.Stretch.{until, stretchAt}
 use Rattle.ancestry.specs.Holds.{until-holds}

@@ -13,7 +13,7 @@ use Rattle.meaning.specs.Rows.{EdgeColumns}
 use Rattle.meaning.specs.Forest.{ancestor}
 use Rattle.laws.specs.Bools.{clash, eq?, and-of, or-no, or-right, not-of, not-no, not-true}
 use Rattle.laws.specs.Counting.{below-hit, below-miss, below-of, below-none, of-below, lowest-none}
-use Rattle.ancestry.specs.Column.{parentRow}
+use Rattle.bridge.specs.Parents.{parentRow}
 use Rattle.overtaking.specs.Overtaken.{over, overtaken, endsSite, somePair, Lined}
 
 -- ---- where a site ends

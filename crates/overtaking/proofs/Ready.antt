@@ -13,7 +13,8 @@ use Rattle.meaning.specs.Rows.{EdgeColumns}
 use Rattle.meaning.specs.Forest.{ancestor}
 use Rattle.laws.specs.Bools.{clash, eq?}
 use Rattle.laws.specs.Counting.{length-rows, get-rows}
-use Rattle.ancestry.specs.Column.{no-row, parentRow, Rising}
+use Rattle.bridge.specs.Parents.{no-row, parentRow}
+use Rattle.ancestry.specs.Column.{Rising}
 use Rattle.overtaking.specs.Stamps.{stamped, stampIf, Stampable, StampedUp}
 use Rattle.overtaking.specs.Overtaken.{over, overtaken, endsSite, Lined, Ordered, Ready, ReadyNext, Going, Gone}
 use Rattle.overtaking.specs.Known.{Known}

@@ -5,7 +5,7 @@ use Prim.Native.Nat.{ℕ, _<_, _≤_}
 use lib.ListN.{length}
 use Rattle.meaning.specs.Words.{at}
 use Rattle.meaning.specs.Rows.{EdgeColumns}
-use Rattle.ancestry.specs.Column.{code, parentRow}
+use Rattle.bridge.specs.Parents.{code, parentRow}
 use Rattle.ancestry.specs.Index.{Indexed}
 
 -- from x on, and below its end, each row's parent is the one kept

@@ -9,7 +9,8 @@ use Rattle.meaning.specs.Words.{and, or, at, anyBelow, lowest}
 use Rattle.meaning.specs.Rows.{EdgeColumns, MutationColumns, edgesOf}
 use Rattle.meaning.specs.Forest.{ancestor}
 use Rattle.meaning.specs.Check.{mutationAbove, overtakes}
-use Rattle.ancestry.specs.Column.{no-row, parentRow, Rising}
+use Rattle.bridge.specs.Parents.{no-row, parentRow}
+use Rattle.ancestry.specs.Column.{Rising}
 use Rattle.overtaking.specs.Known.{Known}
 use Rattle.overtaking.specs.Stamps.{stamped, StampedAbove}
 

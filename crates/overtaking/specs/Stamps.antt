@@ -9,7 +9,8 @@ use lib.ListN.{length}
 use Rattle.meaning.specs.Words.{at, rows}
 use Rattle.meaning.specs.Rows.{EdgeColumns}
 use Rattle.meaning.specs.Forest.{Par, ancestor}
-use Rattle.ancestry.specs.Column.{no-row, parentRow, Rising}
+use Rattle.bridge.specs.Parents.{no-row, parentRow}
+use Rattle.ancestry.specs.Column.{Rising}
 
 unfoldable pub stamped : ℕ → List ℕ → ℕ → Bool
 stamped t stamps v = eqb (at stamps v) t

@@ -3,7 +3,7 @@ ghost use mathlib.Core.Path.{_≡_};
 ghost use Prim.Native.Nat.{_<_};
 ghost use lib.ListN.{length};
 ghost use Rattle.meaning.specs.Rows.{edgeTable};
-ghost use Rattle.ancestry.specs.Column.{code, parentRow};
+ghost use Rattle.bridge.specs.Parents.{code, parentRow};
 ghost use Rattle.ancestry.specs.Index.{Indexed};
 ghost use Rattle.overtaking.specs.Known.{Known};
 

@@ -5,7 +5,7 @@ ghost use Prim.Native.Nat.{ℕ, _+_, _<_, _≤_};
 ghost use lib.ListN.{length};
 ghost use Rattle.meaning.specs.Words.{at, lowest};
 ghost use Rattle.meaning.specs.Rows.{edgeTable};
-ghost use Rattle.ancestry.specs.Column.{parentRow};
+ghost use Rattle.bridge.specs.Parents.{parentRow};
 ghost use Rattle.overtaking.specs.Known.{Known, Keeping};
 ghost use Rattle.overtaking.specs.Stamps.{Stampable, StampedUp};
 ghost use Rattle.overtaking.specs.Overtaken.{endsSite, somePair, overtaken, overtakenRow, lowerOf, Ordered, Going, Gone};

@@ -9,9 +9,9 @@ use lib.Seq.{getD-set-same, getD-set-other}
 use Rattle.meaning.specs.Words.{at}
 use Rattle.meaning.specs.Rows.{EdgeColumns}
 use Rattle.laws.specs.Bools.{eq?}
+use Rattle.bridge.specs.Parents.{code, parentRow}
 use Rattle.mend.specs.Line.{parOf}
-use Rattle.tree.specs.TreeAt as tree
-use Rattle.tree.specs.TreeAt.{Flags, forestAt, lowAt}
+use Rattle.tree.specs.TreeAt.{Flags, lowAt}
 use Rattle.placing.specs.Placing.{Between}
 
 module _ {S P position site node : List ℕ} {next : ℕ} {M : List ℕ} {m : ℕ} where
@@ -27,7 +27,7 @@ module _ {S P position site node : List ℕ} {next : ℕ} {M : List ℕ} {m : �
   }
 
   -- mutation k, which lies before next, gets the cell v
-  pub one-given : {M' : List ℕ} {k : ℕ} (v : ℕ) → Between S P position site node next M m M' k → k < length M' → k < length site → at position (at site k) < next → ((E : EdgeColumns) (Q : List ℕ) (x : ℕ) → Flags S Q (length P) → parOf P ≡ forestAt E x → v ≡ tree.code (lowAt E Q (length P) x (at node k))) → Between S P position site node next M m (set M' k v) (k + 1)
+  pub one-given : {M' : List ℕ} {k : ℕ} (v : ℕ) → Between S P position site node next M m M' k → k < length M' → k < length site → at position (at site k) < next → ((E : EdgeColumns) (Q : List ℕ) (x : ℕ) → Flags S Q (length P) → parOf P ≡ parentRow E x → v ≡ code (lowAt E Q (length P) x (at node k))) → Between S P position site node next M m (set M' k v) (k + 1)
   one-given {M'} {k} v b l s e g = record {
     more = omega (arith, b .more);
     most = omega arith;

@@ -9,7 +9,8 @@ use Rattle.meaning.specs.Words.{at}
 use Rattle.meaning.specs.Rows.{Edge}
 use Rattle.meaning.specs.Forest.{Par}
 use Rattle.laws.specs.Bools.{eq?}
-use Rattle.runs.specs.Runs.{code, OpenRuns, Store, Room, Settling, Stored}
+use Rattle.bridge.specs.Parents.{code}
+use Rattle.runs.specs.Runs.{OpenRuns, Store, Room, Settling, Stored}
 use Rattle.runs.specs.Promises.{Ready, RowSettled, Touched, ChangeSettled}
 
 -- columns that keep their lengths keep their room

@@ -13,8 +13,9 @@ use Rattle.meaning.specs.Rows.{Edge}
 use Rattle.meaning.specs.Forest.{Par}
 use Rattle.laws.specs.Bools.{eq?}
 use Rattle.laws.specs.Facts.{Any, Cov}
+use Rattle.bridge.specs.Parents.{no-row}
 use Rattle.history.specs.Lists.{all-to, append-nil}
-use Rattle.runs.specs.Runs.{no-row, OpenRuns, Store, Room, Opened, Behind, Kept, Swept, Collected, Stored}
+use Rattle.runs.specs.Runs.{OpenRuns, Store, Room, Opened, Behind, Kept, Swept, Collected, Stored}
 use Rattle.runs.specs.Promises.{leaves, Pushed, RowClosed, Closed}
 use Rattle.runs.proofs.Turning.{opened, turned}
 

@@ -10,7 +10,8 @@ use Rattle.meaning.specs.Words.{at}
 use Rattle.meaning.specs.Rows.{Edge}
 use Rattle.meaning.specs.Forest.{Par}
 use Rattle.laws.specs.Bools.{eq?}
-use Rattle.runs.specs.Runs.{no-row, code, OpenRuns, Store, Room, Opened, Behind, Settling}
+use Rattle.bridge.specs.Parents.{no-row, code}
+use Rattle.runs.specs.Runs.{OpenRuns, Store, Room, Opened, Behind, Settling}
 use Rattle.runs.specs.Promises.{Pushed, Ready, RowSettled}
 use Rattle.runs.proofs.Turning.{opened, turned}
 

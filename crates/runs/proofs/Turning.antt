@@ -10,10 +10,11 @@ use Rattle.meaning.specs.Rows.{Edge}
 use Rattle.meaning.specs.Forest.{Par, is}
 use Rattle.laws.specs.Bools.{eq?, not-true}
 use Rattle.laws.specs.Facts.{Any, now, All, done, also, Cov}
+use Rattle.bridge.specs.Parents.{no-row, code}
 use Rattle.history.specs.Lists.{any-left, any-right, all-app, all-to}
 use Rattle.encoding.specs.Runs.{Longest}
 use Rattle.encoding.specs.Edges.{is-of, of-is}
-use Rattle.runs.specs.Runs.{no-row, code, Run, Finished, Apart, Once, none-twice, once-more, Kept, Behind}
+use Rattle.runs.specs.Runs.{Run, Finished, Apart, Once, none-twice, once-more, Kept, Behind}
 
 -- ---- cells and parents
 

@@ -8,8 +8,9 @@ use lib.ListN.{length}
 use Rattle.meaning.specs.Words.{at}
 use Rattle.meaning.specs.Rows.{Edge}
 use Rattle.meaning.specs.Forest.{Par}
+use Rattle.bridge.specs.Parents.{no-row, code}
 use Rattle.runs.specs.declared.Segment.{Segment}
-use Rattle.runs.specs.Runs.{no-row, code, Named, OpenRuns, Store, Room, Opened, Stored, Swept, Settling, Settled, Collected}
+use Rattle.runs.specs.Runs.{Named, OpenRuns, Store, Room, Opened, Stored, Swept, Settling, Settled, Collected}
 
 -- the edge from a segment's row to a child, over the segment
 abbrev pub edgeOf : Segment → ℕ → Edge

@@ -1,7 +1,7 @@
 -- Open runs and finished edges of a sweep along the chromosome: what the lent columns hold when all positions below x are dealt with.
 use mathlib.Core.Path.{_≡_}
 use mathlib.Core.List.{List, [], _∷_}
-use mathlib.Core.Option.{Option, none, some}
+use mathlib.Core.Option.{some}
 use mathlib.Core.Logic.{_⊎_}
 use Prim.Native.Nat.{ℕ, suc, min, _<_, _≤_}
 use lib.ListN.{length, getD}
@@ -9,16 +9,8 @@ use Rattle.meaning.specs.Words.{at}
 use Rattle.meaning.specs.Rows.{Edge}
 use Rattle.meaning.specs.Forest.{Par, is}
 use Rattle.laws.specs.Facts.{Any, All, Cov}
+use Rattle.bridge.specs.Parents.{no-row, code}
 use Rattle.encoding.specs.Runs.{Longest}
-
--- the cell that means none: no node has this row
-abbrev pub no-row : ℕ
-no-row = 4294967295
-
--- a row or none, as a cell
-unfoldable pub code : Option ℕ → ℕ
-code none = no-row
-code (some p) = p
 
 -- a cell that holds a row holds one of n
 abbrev pub Named : ℕ → ℕ → Type 0

@@ -6,7 +6,8 @@ use lib.ListN.{length}
 use Rattle.meaning.specs.Words.{at}
 use Rattle.meaning.specs.Rows.{Edge}
 use Rattle.meaning.specs.Forest.{Par}
-use Rattle.runs.specs.Runs.{code, Named, OpenRuns, Store, Room, Opened, Stored, Swept, Settled, Collected}
+use Rattle.bridge.specs.Parents.{code}
+use Rattle.runs.specs.Runs.{Named, OpenRuns, Store, Room, Opened, Stored, Swept, Settled, Collected}
 use Rattle.runs.specs.Promises.{Ready, Touched, ChangeSettled, Closed}
 
 module _ (n : ℕ) (up : List ℕ) (O : OpenRuns) (D : Store) (long : n ≡ length up) where

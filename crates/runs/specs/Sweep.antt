@@ -15,7 +15,8 @@ use Rattle.meaning.specs.Rows.{Edge}
 use Rattle.meaning.specs.Forest.{Par}
 use Rattle.laws.specs.Counting.{length-rows, get-rows}
 use Rattle.laws.specs.Facts.{done}
-use Rattle.runs.specs.Runs.{no-row, code, Store, no-edge, Cell, Stored, none-twice, Swept, Settled}
+use Rattle.bridge.specs.Parents.{no-row, code}
+use Rattle.runs.specs.Runs.{Store, no-edge, Cell, Stored, none-twice, Swept, Settled}
 
 -- before the first position nothing is finished and no run is of a parent
 pub swept-start : (U : ℕ → Par) (n L : ℕ) (left par : ℕ → ℕ) → ((y c p : ℕ) → c < n → U y c ≡ some p → p ≡ no-row → ⊥) → ((c : ℕ) → c < n → left c ≡ 0) → ((c : ℕ) → c < n → par c ≡ no-row) → Swept U n L 0 [] left par

@@ -7,14 +7,14 @@ use native.Mathlib.Omega.{arith}
 use lib.ListN.{length}
 use Rattle.meaning.specs.Words.{at}
 use Rattle.meaning.specs.Rows.{Edge}
+use Rattle.bridge.specs.Parents.{code}
 use Rattle.mend.specs.Kept.{Noted}
 use Rattle.tree.specs.Sweep as tree
 use Rattle.tree.specs.Sweep.{Ahead, nextChange}
-use Rattle.tree.specs.TreeAt as tree-at
 use Rattle.tree.specs.TreeAt.{Flags, TreeAt, lowAt}
 use Rattle.mend.proofs.Reading.{lt?}
 use Rattle.tree.proofs.Moving.{next-ahead}
-use Rattle.runs.specs.Runs.{code, Room, Settled, Stored}
+use Rattle.runs.specs.Runs.{Room, Settled, Stored}
 use Rattle.runs.specs.Promises.{Touched, ChangeSettled}
 use Rattle.runs.specs.Sized.{opened-after, settled-after}
 use Rattle.runs.specs.Sweep.{swept-on}
@@ -83,7 +83,7 @@ module _ {L : ℕ} {I : Input} {X X' : List ℕ} {x m k next : ℕ} {Z : State} 
     -- a mutation between x and the next change stands on the tree at x
     new-cell : (i : ℕ) → Z .placed ≤ i → i < Z' .placed → at (Z' .lows) i ≡ lowCell I Q i
     new-cell i a l =
-        let b : at (Z' .lows) i ≡ tree-at.code (lowAt (edgesIn I) Q n x (at (I .node) i)) = rw long at (pl .between .given (edgesIn I) Q x flags (at-x .forest) i a l) in
+        let b : at (Z' .lows) i ≡ code (lowAt (edgesIn I) Q n x (at (I .node) i)) = rw long at (pl .between .given (edgesIn I) Q x flags (at-x .forest) i a l) in
         b ∙ low-cell (edgesIn I) Q n x (at (I .node) i)
         ∙ ap code (sym (low-same x (sw .plan) (sw .ahead) (there .0) n Q (positionOf I i) (at (I .node) i) (st .ahead i a (omega (arith, pl .between .most))) (pl .between .before i a l)))
 

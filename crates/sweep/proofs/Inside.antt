@@ -10,13 +10,13 @@ use Rattle.meaning.specs.Rows.{EdgeColumns, edgesOf}
 use Rattle.meaning.specs.Forest.{Par, Ages, near, up, drawn}
 use Rattle.laws.specs.Bools.{none-some, some-inj}
 use Rattle.laws.specs.Counting.{get-rows}
+use Rattle.bridge.specs.Parents.{parentRow, code}
 use Rattle.accepted.specs.Records.{row-of}
 use Rattle.history.specs.Encode.{parent-of}
-use Rattle.byrows.specs.Rows.{allRows, forestRow, reachedRow, standsRow, upRow, lowRow}
+use Rattle.byrows.specs.Rows.{allRows, reachedRow, standsRow, upRow, lowRow}
 use Rattle.tree.specs.Sweep.{Checked}
-use Rattle.tree.specs.TreeAt as tree
-use Rattle.tree.specs.TreeAt.{TreeAt, forestAt, standsAt, lowAt}
-use Rattle.runs.specs.Runs.{code, Named}
+use Rattle.tree.specs.TreeAt.{TreeAt, standsAt, lowAt}
+use Rattle.runs.specs.Runs.{Named}
 
 -- ---- rows
 
@@ -58,8 +58,8 @@ module _ {T l r pa ch : List ℕ} {n : ℕ} (k : Checked T l r pa ch n) where
   abbrev E : EdgeColumns
   E = record { left = l; right = r; parent = pa; child = ch }
 
-  parent-inside : (x b p : ℕ) → forestRow E x b ≡ some p → p < n
-  unfolding forestRow
+  parent-inside : (x b p : ℕ) → parentRow E x b ≡ some p → p < n
+  unfolding parentRow
   parent-inside x b p e =
       let w : _ = row-of (λ v. v) E x b p (parent-of x b (edgesOf (λ v. v) E) p e) in
       omega (arith, k .parent (w .0) (omega (arith, w .1 .is-row, k .lefts)), w .1 .to-parent)
@@ -67,7 +67,7 @@ module _ {T l r pa ch : List ℕ} {n : ℕ} (k : Checked T l r pa ch n) where
   -- an output parent is one of the n rows
   pub up-row-inside : (Q : List ℕ) (x c p : ℕ) → upRow E n Q x c ≡ some p → p < n
   unfolding upRow
-  up-row-inside Q x c p e = drawn-inside n (forestRow E x) (parent-inside x) (standsRow E n Q x) c p e
+  up-row-inside Q x c p e = drawn-inside n (parentRow E x) (parent-inside x) (standsRow E n Q x) c p e
 
   pub up-named : (Q : List ℕ) (x c : ℕ) → Named n (code (upRow E n Q x c))
   unfolding code
@@ -79,18 +79,12 @@ module _ {T l r pa ch : List ℕ} {n : ℕ} (k : Checked T l r pa ch n) where
 
 -- ---- cells
 
--- both crates say a row or none by the same cell
-same-code : (o : Option ℕ) → tree.code o ≡ code o
-unfolding tree.code code
-same-code none = refl
-same-code (some p) = refl
-
 -- the tree's column of output parents, by rows
 pub up-cell : {E : EdgeColumns} {Q S P C U : List ℕ} {n x : ℕ} → TreeAt E Q n x S P C U → (c : ℕ) → c < n → at U c ≡ code (upRow E n Q x c)
-unfolding upRow forestRow standsRow forestAt standsAt allRows
-up-cell {E} {Q} {n = n} {x} t c l = ap (λ (z : List ℕ). at z c) (t .ups) ∙ get-rows (λ u. tree.code (drawn (forestAt E x) (standsAt E Q n x) u)) 0 n c l ∙ same-code (upRow E n Q x c)
+unfolding upRow parentRow standsRow standsAt allRows
+up-cell {E} {Q} {n = n} {x} t c l = ap (λ (z : List ℕ). at z c) (t .ups) ∙ get-rows (λ u. code (drawn (parentRow E x) (standsAt E Q n x) u)) 0 n c l
 
 -- the nearest standing row, by rows
-pub low-cell : (E : EdgeColumns) (Q : List ℕ) (n x u : ℕ) → tree.code (lowAt E Q n x u) ≡ code (lowRow E n Q x u)
-unfolding lowAt lowRow forestRow standsRow reachedRow forestAt standsAt allRows
-low-cell E Q n x u = same-code (lowRow E n Q x u)
+pub low-cell : (E : EdgeColumns) (Q : List ℕ) (n x u : ℕ) → code (lowAt E Q n x u) ≡ code (lowRow E n Q x u)
+unfolding lowAt lowRow parentRow standsRow reachedRow standsAt allRows
+low-cell E Q n x u = refl

@@ -9,6 +9,7 @@ use native.Mathlib.Omega.{arith}
 use lib.ListN.{length, getD}
 use Rattle.meaning.specs.Words.{at}
 use Rattle.laws.specs.Bools.{clash, eq?, none-some}
+use Rattle.bridge.specs.Parents.{no-row}
 use Rattle.mend.specs.Right.{stands}
 use Rattle.mend.specs.Line.{parOf, opt, Over, root, hit, on}
 use Rattle.mend.specs.Kept.{Filled}
@@ -17,7 +18,7 @@ use Rattle.tree.specs.Sweep.{seen, Plan}
 use Rattle.mend.proofs.Reading.{opt-some, no-parent}
 use Rattle.tree.proofs.Seeing.{not-begun}
 use Rattle.tree.proofs.Sweeping.{plan-on}
-use Rattle.runs.specs.Runs.{no-row, Room}
+use Rattle.runs.specs.Runs.{Room}
 use Rattle.runs.specs.Sweep.{swept-start, stored-start}
 use Rattle.sweep.specs.Columns.{Input, State}
 use Rattle.sweep.specs.Sweeping.{Asked, Steady, Going}

@@ -9,12 +9,13 @@ use native.Mathlib.Omega.{arith}
 use lib.ListN.{length, getD}
 use Rattle.meaning.specs.Words.{at}
 use Rattle.laws.specs.Bools.{eq?, none-some, some-inj}
+use Rattle.bridge.specs.Parents.{no-row}
 use Rattle.mend.specs.Right.{stands}
 use Rattle.mend.specs.Line.{parOf, Over, root, hit, on}
 use Rattle.mend.specs.Kept.{Kept, Noted}
 use Rattle.tree.specs.Sweep as tree
 use Rattle.mend.proofs.Reading.{par-of, opt-some}
-use Rattle.runs.specs.Runs.{no-row, Named}
+use Rattle.runs.specs.Runs.{Named}
 use Rattle.runs.specs.Promises.{Ready}
 use Rattle.runs.specs.Sized.{ready-of}
 use Rattle.sweep.specs.Columns.{Input, State, positionOf, Sited}

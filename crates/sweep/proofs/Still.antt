@@ -8,9 +8,10 @@ use lib.ListN.{length, getD}
 use Rattle.meaning.specs.Words.{at}
 use Rattle.meaning.specs.Rows.{edgesOf}
 use Rattle.meaning.specs.Forest.{Par, Ages, reached, stands, low, drawn}
+use Rattle.bridge.specs.Parents.{parentRow}
 use Rattle.accepted.specs.Columns.{all-rows}
 use Rattle.encoding.specs.Quiet.{Still, forest-still}
-use Rattle.byrows.specs.Rows.{allRows, forestRow, reachedRow, standsRow, upRow, lowRow}
+use Rattle.byrows.specs.Rows.{allRows, reachedRow, standsRow, upRow, lowRow}
 use Rattle.tree.specs.Sweep.{Index, Cut, Ahead, Plan}
 use Rattle.tree.specs.TreeAt.{columns}
 use Rattle.mend.proofs.Reading.{lt?}
@@ -33,8 +34,8 @@ module _ (x : ℕ) {T l r pa ch bl br : List ℕ} {n i j next : ℕ} (pl : Plan 
   }
 
   -- "nothing changes": the forest of rows is the same up to the next change
-  forest-same : (y : ℕ) → x ≤ y → y < next → forestRow (columns l r pa ch) x ≡ forestRow (columns l r pa ch) y
-  unfolding forestRow edgesOf
+  forest-same : (y : ℕ) → x ≤ y → y < next → parentRow (columns l r pa ch) x ≡ parentRow (columns l r pa ch) y
+  unfolding parentRow edgesOf
   forest-same y a b = forest-still x y a (edgesOf (λ v. v) (columns l r pa ch)) (all-rows (Still x y) (λ e. record { left = at l e; right = at r e; parent = at pa e; child = at ch e }) (length l) (still-edge y a b))
 
   pub up-same : (k : ℕ) (Q : List ℕ) (y c : ℕ) → x ≤ y → y < next → upRow (columns l r pa ch) k Q y c ≡ upRow (columns l r pa ch) k Q x c

@@ -6,8 +6,9 @@ use lib.ListN.{length}
 use Rattle.meaning.specs.Words.{at}
 use Rattle.meaning.specs.Rows.{EdgeColumns}
 use Rattle.meaning.specs.Forest.{Par}
+use Rattle.bridge.specs.Parents.{code}
 use Rattle.byrows.specs.Rows.{upRow, lowRow}
-use Rattle.runs.specs.Runs.{code, OpenRuns, Store}
+use Rattle.runs.specs.Runs.{OpenRuns, Store}
 
 -- the columns that are read: nodes, edges, the edge rows by left and by right, sites and mutations
 pub record Input : Type 0 where

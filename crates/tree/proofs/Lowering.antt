@@ -14,6 +14,7 @@ use Rattle.meaning.specs.Forest.{Par, Ages, reached}
 use Rattle.laws.specs.Bools.{clash, not-true, eq?}
 use Rattle.laws.specs.Members.{mem-nil, mem-here, mem-there, mem-cases}
 use Rattle.laws.specs.Facts.{In, Distinct, nil, cons}
+use Rattle.bridge.specs.Parents.{code, parentRow}
 use Rattle.forest.specs.Passing.{first-some, first-of}
 use Rattle.forest.specs.TreeLaws.{Nodes, feeds-of, of-feeds}
 use Rattle.forest.specs.Lowest.{Rule, stands-rule}
@@ -21,7 +22,7 @@ use Rattle.forest.specs.Code.{low-here, low-on}
 use Rattle.mend.specs.Right.{live, stands}
 use Rattle.mend.specs.Line.{parOf, Low, here, down, Lives}
 use Rattle.mend.specs.Kept.{Mended}
-use Rattle.tree.specs.TreeAt.{code, forestAt, standsAt, lowAt, nodeRows, Flags}
+use Rattle.tree.specs.TreeAt.{standsAt, lowAt, nodeRows, Flags}
 use Rattle.mend.proofs.Reading.{par-of, stands-no}
 use Rattle.mend.proofs.Only.{lives}
 use Rattle.tree.proofs.Reaching.{aged, live-reached, stands-all}
@@ -97,7 +98,7 @@ module _ {T S P C M Q : List ℕ} (md : Mended T S P C M) (fl : Flags S Q (lengt
           let g : _ = feeds-of (parOf P) (reached (parOf P) Q) u d (first-of (def.feeds (parOf P) (reached (parOf P) Q) u) d (nodeRows (length P)) f) in
           absurd (clash (lv .up (g .0) (live-reached md fl d (par-of P d u (g .0) .0) ∙ g .1)) n)
 
-  module _ (E : EdgeColumns) (x : ℕ) (is : parOf P ≡ forestAt E x) where
+  module _ (E : EdgeColumns) (x : ℕ) (is : parOf P ≡ parentRow E x) where
     at-x : (u : ℕ) → def.low (nodeRows (length P)) (parOf P) (reached (parOf P) Q) (stands S C) Ages u ≡ lowAt E Q (length P) x u
     unfolding lowAt standsAt
     at-x u = ap₂ (λ (F : Par) (f : ℕ → Bool). def.low (nodeRows (length P)) F (reached F Q) f Ages u) is (stands-all md fl ∙ ap (λ (F : Par). def.stands (nodeRows (length P)) F Q) is)

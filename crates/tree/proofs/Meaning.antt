@@ -14,6 +14,7 @@ use Rattle.meaning.specs.Forest as def
 use Rattle.meaning.specs.Forest.{Par, reached, up, drawn}
 use Rattle.laws.specs.Bools.{truth, eq?, none-some, some-inj}
 use Rattle.laws.specs.Counting.{length-rows, get-rows}
+use Rattle.bridge.specs.Parents.{code, parentRow}
 use Rattle.forest.specs.Contract.{Near, found, Up}
 use Rattle.forest.specs.Contract as contract
 use Rattle.forest.specs.TreeLaws.{Aged, up-of, of-up}
@@ -22,7 +23,7 @@ use Rattle.mend.specs.Right.{stands}
 use Rattle.mend.specs.Line.{parOf, opt, Over, root, hit, on}
 use Rattle.mend.specs.Kept.{Kept}
 use Rattle.tree.specs.Sweep.{Ahead, Swept}
-use Rattle.tree.specs.TreeAt.{code, columns, forestAt, standsAt, nodeRows, Flags, TreeAt}
+use Rattle.tree.specs.TreeAt.{columns, standsAt, nodeRows, Flags, TreeAt}
 use Rattle.mend.proofs.Reading.{opt-none, opt-some, par-in}
 use Rattle.tree.proofs.Up.{over-one}
 use Rattle.tree.proofs.Reaching.{aged, live-reached, stands-all}
@@ -74,17 +75,17 @@ module _ {T S P C M U Q : List ℕ} (k : Kept T S P C M U) (fl : Flags S Q (leng
       (truth (stands S C u))
 
   -- the columns are those of the tree at x, where the column of parents is the forest at x
-  pub tree-is : (E : EdgeColumns) (x : ℕ) → parOf P ≡ forestAt E x → TreeAt E Q (length P) x S P C U
+  pub tree-is : (E : EdgeColumns) (x : ℕ) → parOf P ≡ parentRow E x → TreeAt E Q (length P) x S P C U
   unfolding standsAt
   tree-is E x is = record {
     forest = is;
-    parents = column P (λ u. code (forestAt E x u)) (length P) refl (λ u l. sym (ap (λ (F : Par). code (F u)) (sym is) ∙ ap code (par-in P u l) ∙ code-opt (getD P u 0)));
+    parents = column P (λ u. code (parentRow E x u)) (length P) refl (λ u l. sym (ap (λ (F : Par). code (F u)) (sym is) ∙ ap code (par-in P u l) ∙ code-opt (getD P u 0)));
     reaches = λ u l. live-reached (k .mended) fl u l ∙ ap (λ (F : Par). reached F Q u) is;
     stood = λ u l. ap (λ (f : ℕ → Bool). f u) standing;
-    ups = column U (λ u. code (drawn (forestAt E x) (standsAt E Q (length P) x) u)) (length P) (k .up .long) (λ u l. up-cell u l ∙ ap₂ (λ (F : Par) (f : ℕ → Bool). code (drawn F f u)) is standing);
+    ups = column U (λ u. code (drawn (parentRow E x) (standsAt E Q (length P) x) u)) (length P) (k .up .long) (λ u l. up-cell u l ∙ ap₂ (λ (F : Par) (f : ℕ → Bool). code (drawn F f u)) is standing);
   }
     where
-      standing : stands S C ≡ def.stands (nodeRows (length P)) (forestAt E x) Q
+      standing : stands S C ≡ def.stands (nodeRows (length P)) (parentRow E x) Q
       standing = stands-all (k .mended) fl ∙ ap (λ (F : Par). def.stands (nodeRows (length P)) F Q) is
 
 -- the columns of a sweep that has come to x are those of the tree at x
@@ -96,7 +97,7 @@ pub swept-on : {T S P C M U l r pa ch bl br : List ℕ} {i j x y : ℕ} (z : ℕ
 swept-on z sw ah h k = record { kept = sw .kept; plan = sw .plan; ahead = ahead-between (sw .ahead) ah (omega arith) (omega arith); holds = sw .holds }
 
 -- where the forest is the same, so is the tree
-pub tree-stays : {E : EdgeColumns} {Q S P C U : List ℕ} {n x z : ℕ} → forestAt E z ≡ forestAt E x → TreeAt E Q n x S P C U → TreeAt E Q n z S P C U
+pub tree-stays : {E : EdgeColumns} {Q S P C U : List ℕ} {n x z : ℕ} → parentRow E z ≡ parentRow E x → TreeAt E Q n x S P C U → TreeAt E Q n z S P C U
 unfolding standsAt
 tree-stays {E} {Q} {S} {P} {C} {U} {n} {x} {z} e t = record {
   forest = t .forest ∙ sym e;

@@ -14,10 +14,11 @@ use Rattle.meaning.specs.Rows.{Edge, edgesOf}
 use Rattle.meaning.specs.Forest as def
 use Rattle.meaning.specs.Forest.{parentIn}
 use Rattle.laws.specs.Bools.{clash, and-of, and-yes, eq?, none-some}
+use Rattle.bridge.specs.Parents.{parentRow}
 use Rattle.mend.specs.Right as right
 use Rattle.mend.specs.Line.{parOf}
 use Rattle.tree.specs.Sweep.{Ahead, Holds, acts, Plan}
-use Rattle.tree.specs.TreeAt.{columns, forestAt}
+use Rattle.tree.specs.TreeAt.{columns}
 use Rattle.mend.proofs.Reading.{lt?, of-par, no-parent, par-out}
 use Rattle.tree.proofs.Seeing.{acts-of, of-acts, past-seen, next-seen, seen-past, seen-next}
 
@@ -62,12 +63,12 @@ module _ (l r pa ch : List ℕ) (x u : ℕ) where
       go true q ih = let s : some (getD pa i 0) ≡ none = rw (q, parentIn) at h in none-some s refl
       go false q ih = ⊎-elim (λ (z : e ≡ i). clash (ap (λ (y : ℕ). def.holds x u (edge y)) (sym z) ∙ of-holds e o) q) (λ (z : e ≡ i → ⊥). ih (rw (q, parentIn) at h) (omega arith) (omega arith)) (eq? e i)
 
-  pub parent-some : (p : ℕ) → forestAt (columns l r pa ch) x u ≡ some p → (e : ℕ) × (e < length l) × Over e × (getD pa e 0 ≡ p)
-  unfolding forestAt edgesOf rows edge
+  pub parent-some : (p : ℕ) → parentRow (columns l r pa ch) x u ≡ some p → (e : ℕ) × (e < length l) × Over e × (getD pa e 0 ≡ p)
+  unfolding parentRow edgesOf rows edge
   parent-some p h = let s : _ = from-some 0 (length l) p h in (s .0, omega (arith, s .1), s .2, s .3)
 
-  pub parent-none : forestAt (columns l r pa ch) x u ≡ none → (e : ℕ) → e < length l → Over e → ⊥
-  unfolding forestAt edgesOf rows edge
+  pub parent-none : parentRow (columns l r pa ch) x u ≡ none → (e : ℕ) → e < length l → Over e → ⊥
+  unfolding parentRow edgesOf rows edge
   parent-none h e b o = from-none 0 (length l) h e (omega arith) (omega arith) o
 
 -- ---- the edges that hold at x, by the cursors
@@ -84,10 +85,10 @@ module _ {T l r pa ch bl br : List ℕ} {n i j x : ℕ} (pl : Plan T l r pa ch b
   over-acts a b = of-acts bl br i j e (seen-past (pl .lefts) (ah .begun) e he (omega arith)) (seen-next (pl .rights) (ah .ended) e (omega arith))
 
 -- the column of parents, read as a forest, is the forest at x
-pub placed : {T l r pa ch bl br P : List ℕ} {i j : ℕ} (x : ℕ) → Plan T l r pa ch bl br (length P) → Ahead l r bl br i j (x + 1) → Holds (acts bl br i j) ch pa P → length P ≤ right.none → parOf P ≡ forestAt (columns l r pa ch) x
-placed {T} {l} {r} {pa} {ch} {bl} {br} {P} {i} {j} x pl ah ho few = fun-ext (λ u. go u (forestAt (columns l r pa ch) x u) refl)
+pub placed : {T l r pa ch bl br P : List ℕ} {i j : ℕ} (x : ℕ) → Plan T l r pa ch bl br (length P) → Ahead l r bl br i j (x + 1) → Holds (acts bl br i j) ch pa P → length P ≤ right.none → parOf P ≡ parentRow (columns l r pa ch) x
+placed {T} {l} {r} {pa} {ch} {bl} {br} {P} {i} {j} x pl ah ho few = fun-ext (λ u. go u (parentRow (columns l r pa ch) x u) refl)
   where
-    go : (u : ℕ) (o : Option ℕ) → forestAt (columns l r pa ch) x u ≡ o → parOf P u ≡ forestAt (columns l r pa ch) x u
+    go : (u : ℕ) (o : Option ℕ) → parentRow (columns l r pa ch) x u ≡ o → parOf P u ≡ parentRow (columns l r pa ch) x u
     go u (some p) q =
         let s : _ = parent-some l r pa ch x u p q in
         let he : s .0 < length ch = omega (arith, s .1, pl .checked .lefts) in
@@ -108,8 +109,8 @@ ahead-between a b h k = record {
 }
 
 -- from x up to the next change y the forest is the one at x
-pub unchanged : {T l r pa ch bl br : List ℕ} {n i j x y z : ℕ} → Plan T l r pa ch bl br n → Ahead l r bl br i j (x + 1) → Ahead l r bl br i j y → x ≤ z → z < y → forestAt (columns l r pa ch) z ≡ forestAt (columns l r pa ch) x
-unchanged {T} {l} {r} {pa} {ch} {bl} {br} {n} {i} {j} {x} {y} {z} pl a b h k = fun-ext (λ u. go u (forestAt (columns l r pa ch) z u) refl (forestAt (columns l r pa ch) x u) refl)
+pub unchanged : {T l r pa ch bl br : List ℕ} {n i j x y z : ℕ} → Plan T l r pa ch bl br n → Ahead l r bl br i j (x + 1) → Ahead l r bl br i j y → x ≤ z → z < y → parentRow (columns l r pa ch) z ≡ parentRow (columns l r pa ch) x
+unchanged {T} {l} {r} {pa} {ch} {bl} {br} {n} {i} {j} {x} {y} {z} pl a b h k = fun-ext (λ u. go u (parentRow (columns l r pa ch) z u) refl (parentRow (columns l r pa ch) x u) refl)
   where
     c : Ahead l r bl br i j (z + 1)
     c = ahead-between a b (omega arith) (omega arith)
@@ -118,7 +119,7 @@ unchanged {T} {l} {r} {pa} {ch} {bl} {br} {n} {i} {j} {x} {y} {z} pl a b h k = f
     carry : {v w : ℕ} (u e : ℕ) → Ahead l r bl br i j (v + 1) → Ahead l r bl br i j (w + 1) → e < length l → Over l r pa ch v u e → Over l r pa ch w u e
     carry {w = w} u e p q he o = let m : e < length ch = omega (arith, pl .checked .lefts) in subst (λ (t : ℕ). Over l r pa ch w t e) (o .of-child) (acts-over pl q e m (over-acts pl p e m (o .begun) (o .not-over)))
 
-    go : (u : ℕ) (o : Option ℕ) → forestAt (columns l r pa ch) z u ≡ o → (o' : Option ℕ) → forestAt (columns l r pa ch) x u ≡ o' → forestAt (columns l r pa ch) z u ≡ forestAt (columns l r pa ch) x u
+    go : (u : ℕ) (o : Option ℕ) → parentRow (columns l r pa ch) z u ≡ o → (o' : Option ℕ) → parentRow (columns l r pa ch) x u ≡ o' → parentRow (columns l r pa ch) z u ≡ parentRow (columns l r pa ch) x u
     go u none e none f = e ∙ sym f
     go u none e (some p) f = let s : _ = parent-some l r pa ch x u p f in absurd (parent-none l r pa ch z u e (s .0) (s .1) (carry u (s .0) a c (s .1) (s .2)))
     go u (some q) e none f = let s : _ = parent-some l r pa ch z u q e in absurd (parent-none l r pa ch x u f (s .0) (s .1) (carry u (s .0) c a (s .1) (s .2)))

@@ -7,11 +7,12 @@ ghost use mathlib.Core.List.{List};
 ghost use Prim.Native.Nat.{ℕ, _<_};
 ghost use lib.ListN.{length, getD};
 ghost use Rattle.meaning.specs.Rows.{EdgeColumns};
+ghost use Rattle.bridge.specs.Parents.{parentRow, code};
 ghost use Rattle.mend.specs.Right.{W, Shape};
 ghost use Rattle.mend.specs.Line.{parOf};
 ghost use Rattle.mend.specs.Kept.{Mended, Filled};
 ghost use Rattle.tree.specs.Sweep.{Plan, Swept};
-ghost use Rattle.tree.specs.TreeAt.{forestAt, lowAt, code, Flags};
+ghost use Rattle.tree.specs.TreeAt.{lowAt, Flags};
 
 // Every cell is v.
 fn fill(column: &mut [u32], v: u32)
@@ -63,7 +64,7 @@ pub fn low_at(
     u: u32,
 ) -> u32
     requires { ⌜ Mended (now time) (now sample) (now parent) (now count) (now sum) × (u < length (now parent)) ⌝ }
-    ensures { λ r. ⌜ ((E : EdgeColumns) (Q : List ℕ) (x : ℕ) → Flags (now (sample .entry)) Q (length (now (parent .entry))) → parOf (now (parent .entry)) ≡ forestAt E x → r ≡ code (lowAt E Q (length (now (parent .entry))) x u)) ⌝ }
+    ensures { λ r. ⌜ ((E : EdgeColumns) (Q : List ℕ) (x : ℕ) → Flags (now (sample .entry)) Q (length (now (parent .entry))) → parOf (now (parent .entry)) ≡ parentRow E x → r ≡ code (lowAt E Q (length (now (parent .entry))) x u)) ⌝ }
 {
     if alive(sample, count, u) {
         return low(time, sample, parent, count, sum, u);

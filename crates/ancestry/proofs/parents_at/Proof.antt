@@ -4,8 +4,8 @@ use mathlib.Core.List.{List}
 use Prim.Native.Nat.{ℕ, _<_, _≤_, _-_}
 use lib.ListN.{length, length-replicate}
 use Rattle.meaning.specs.Words.{at}
-use Rattle.ancestry.specs.Column.{no-row}
 use Rattle.meaning.specs.Rows.{EdgeColumns}
+use Rattle.bridge.specs.Parents.{no-row}
 use Rattle.ancestry.proofs.Filling.{Filled, keep, put, filled-none, filled-all, both-hold, not-begun, is-over, from-before, at-none}
 use native.Mathlib.Omega.{arith}
 use borrow.Author.Needs.{needs}
