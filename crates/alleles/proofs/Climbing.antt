@@ -17,8 +17,8 @@ use Rattle.bridge.specs.Rename.{near-here, near-top, near-step, near-inside}
 use Rattle.ancestry.specs.declared.Stretch.{Stretch}
 use Rattle.ancestry.specs.Column.{older}
 use Rattle.ancestry.specs.Older.{older-falls}
-use Rattle.ancestry.specs.Marks.{marked}
-use Rattle.ancestry.specs.Coded.{parent-rises}
+use Rattle.alleles.specs.Marks.{marked}
+use Rattle.ancestry.specs.Rises.{parent-rises}
 use Rattle.ancestry.specs.Stretch.{another, until, nearUntil, stretchAt}
 use Rattle.alleles.specs.declared.Carrier.{Carrier}
 use Rattle.alleles.specs.declared.climb.Stop.{Stop}

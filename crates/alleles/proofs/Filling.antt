@@ -1,11 +1,11 @@
 -- Filling columns with the marks and states of the mutations gone over so far.
 use mathlib.Core.Path.{_≡_, refl, sym, ap, ap₂, subst₂, _∙_}
 use mathlib.Core.Bool.{Bool, true, false}
-use mathlib.Core.List.{List}
+use mathlib.Core.List.{List, [], _∷_, _++_}
 use mathlib.Core.Logic.{_⊎_, inl, inr}
-use Prim.Native.Nat.{ℕ, suc, _+_, _-_, _<_, _≤_}
+use Prim.Native.Nat.{ℕ, zero, suc, _+_, _-_, _<_, _≤_}
 use native.Mathlib.Omega.{arith}
-use lib.ListN.{length, set, replicate, length-set, length-replicate, getD-replicate}
+use lib.ListN.{length, drop, set, replicate, length-set, length-replicate, getD-replicate}
 use lib.Seq.{ext-getD, getD-set-same, getD-set-other}
 use borrow.Author.Tests.{eq-eqb, ne-eqb}
 use Rattle.meaning.specs.Words.{at, any, rowsFrom, rows}
@@ -15,6 +15,13 @@ use Rattle.laws.specs.Bools.{eq?}
 use Rattle.laws.specs.Counting.{length-rows, get-rows}
 use Rattle.bridge.specs.Sites.{mutationRow, any-end, any-hit, any-miss, last-end, last-hit, last-miss}
 use Rattle.alleles.specs.Marks.{Naming, mark, markAfter, stateAfter, marksOf, statesOf}
+
+-- a column filled up to its end is filled
+pub all-filled : (i v : ℕ) (d : List ℕ) → i ≤ length d → length d ≤ i → replicate i v ++ drop i d ≡ replicate (length d) v
+all-filled zero v [] h l = refl
+all-filled zero v (x ∷ d) h l = absurd (omega arith)
+all-filled (suc i) v [] h l = absurd (omega arith)
+all-filled (suc i) v (x ∷ d) h l = ap (λ (t : List ℕ). v ∷ t) (all-filled i v d (omega arith) (omega arith))
 
 -- rows made alike below n are the same
 pub rows-same : (f g : ℕ → ℕ) (n : ℕ) → ((v : ℕ) → v < n → f v ≡ g v) → rows f n ≡ rows g n

@@ -16,10 +16,9 @@ use Rattle.bridge.specs.Parents.{parentRow}
 use Rattle.bridge.specs.Rename.{mapOption, Renamed, near-names, near-inside}
 use Rattle.bridge.specs.Columns.{Within, parent-names}
 use Rattle.bridge.specs.Sites.{pos-at, state-at, carries-names, last-names}
-use Rattle.ancestry.specs.Marks.{marked}
 use Rattle.ancestry.specs.Index.{Ends}
-use Rattle.ancestry.specs.Coded.{parent-rises}
-use Rattle.alleles.specs.Marks.{Naming, mark, marksOf, statesOf}
+use Rattle.ancestry.specs.Rises.{parent-rises}
+use Rattle.alleles.specs.Marks.{marked, Naming, mark, marksOf, statesOf}
 use Rattle.alleles.specs.Reading.{Climbable, carriedBy, Readable}
 
 -- ---- the columns, cell by cell

@@ -4,6 +4,7 @@ use mathlib.Core.Bool.{Bool, true, false}
 use mathlib.Core.List.{List}
 use mathlib.Core.Option.{Option, none, some}
 use Prim.Native.Nat.{ℕ, _<_}
+use lib.Dec.{eqb}
 use lib.ListN.{length}
 use Rattle.meaning.specs.Words.{at, mem, indexOf, rows}
 use Rattle.meaning.specs.Rows.{MutationColumns, mutsOf}
@@ -20,6 +21,10 @@ foundOf Nothing = none
 unfoldable pub rowOf : List ℕ → ℕ → Option ℕ
 unfolding mem indexOf
 rowOf birth b = elim (mem b birth) [ true ↦ some (indexOf b birth) | false ↦ none ]
+
+-- row v is marked
+unfoldable pub marked : List ℕ → ℕ → Bool
+marked marks v = eqb (at marks v) 1
 
 -- the columns are equally long, and each mutation is on one of n rows: part of what 1 and 9 find
 pub record Naming (M : MutationColumns) (n : ℕ) : Type 0 where

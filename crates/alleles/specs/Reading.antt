@@ -12,11 +12,10 @@ use Rattle.bridge.specs.Parents.{no-row, code, parentRow}
 use Rattle.bridge.specs.Columns.{Apart}
 use Rattle.rules.specs.ByChild.{ByChild}
 use Rattle.ancestry.specs.Column.{older, Rising}
-use Rattle.ancestry.specs.Marks.{marked}
 use Rattle.ancestry.specs.Index.{Whole, Indexed}
 use Rattle.ancestry.specs.Stretch.{nearUntil}
 use Rattle.alleles.specs.declared.Carrier.{Carrier}
-use Rattle.alleles.specs.Marks.{Naming}
+use Rattle.alleles.specs.Marks.{marked, Naming}
 
 -- what the way up from row u asks of the edges, their order by child with the ends, and the marks
 pub record Climbable (time : List ℕ) (E : EdgeColumns) (L : ℕ) (by ends has : List ℕ) (u : ℕ) : Type 0 where

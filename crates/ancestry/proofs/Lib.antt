@@ -1,6 +1,4 @@
 -- Laws that the proofs of this crate's functions share.
-pub mod Filling
-pub mod Marking
 pub mod Skipping
 pub mod Finding
 pub mod Stretching

@@ -10,11 +10,11 @@ use Rattle.meaning.specs.Words.{at}
 use Rattle.meaning.specs.Rows.{EdgeColumns}
 use Rattle.laws.specs.Bools.{eq?}
 use Rattle.rules.specs.ByChild.{ByChild}
-use Rattle.ancestry.specs.Column.{Even}
+use Rattle.rules.specs.Asked.{EvenEdges}
 use Rattle.ancestry.specs.Index.{Ends, Grouped, Passed, Skipped, Ending}
 
 -- the order by child has the children in order
-pub grouped : (E : EdgeColumns) (by : List ℕ) → Even E → ByChild E by → Grouped (E .child) by
+pub grouped : (E : EdgeColumns) (by : List ℕ) → EvenEdges E → ByChild E by → Grouped (E .child) by
 grouped E by v b = record { row = λ p l. omega (arith, b .row p l, v .child-long); rise = rise }
   where
     rise : (p q : ℕ) → p ≤ q → q < length by → at (E .child) (at by p) ≤ at (E .child) (at by q)

@@ -10,7 +10,7 @@ use Rattle.meaning.specs.Words.{at}
 use Rattle.meaning.specs.Rows.{EdgeColumns}
 use Rattle.laws.specs.Bools.{eq?, some-inj, none-some}
 use Rattle.bridge.specs.Parents.{code, parentRow}
-use Rattle.ancestry.specs.Column.{Even}
+use Rattle.rules.specs.Asked.{EvenEdges}
 use Rattle.ancestry.specs.Index.{begins, Indexed}
 use Rattle.ancestry.specs.Stretch.{until, stretchAt}
 use Rattle.ancestry.specs.Holds.{until-is}
@@ -114,7 +114,7 @@ module _ (E : EdgeColumns) (L : ℕ) (by : List ℕ) (u low high : ℕ) (ok : Pl
   lefts r h k = record { inside = ok .inside; order = k; row = λ p g m. ok .row p (omega arith) m; rise = λ p q g m n. rise p q (omega arith) m n }
 
   -- an edge of the row stands before place r
-  module _ (r : ℕ) (v : Even E) (h : low < r) (k : r ≤ high) where
+  module _ (r : ℕ) (v : EvenEdges E) (h : low < r) (k : r ≤ high) where
     pub linked : Linked (E .left) (E .right) (E .parent) by (r - 1) high
     linked = record { inside = ok .inside; first = omega arith; right-long = v .right-long; parent-long = v .parent-long; row = λ q g m. ok .row q (omega arith) m }
 

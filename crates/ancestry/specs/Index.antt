@@ -5,7 +5,7 @@ use lib.ListN.{length}
 use Rattle.meaning.specs.Words.{at}
 use Rattle.meaning.specs.Rows.{EdgeColumns}
 use Rattle.rules.specs.ByChild.{ByChild}
-use Rattle.ancestry.specs.Column.{Even}
+use Rattle.rules.specs.Asked.{EvenEdges}
 
 -- the place after the last edge of row u or of a lower row, for each row u
 pub record Ends (child by ends : List ℕ) : Type 0 where
@@ -25,7 +25,7 @@ pub record Whole (E : EdgeColumns) (L : ℕ) : Type 0 where
 
 -- what looking up a parent asks of the edges, their order by child and the ends
 pub record Indexed (E : EdgeColumns) (L : ℕ) (by closed : List ℕ) : Type 0 where
-  pub even : Even E
+  pub even : EvenEdges E
   pub whole : Whole E L
   pub order : ByChild E by
   pub ends : Ends (E .child) by closed

@@ -2,10 +2,9 @@
 pub mod Column
 pub mod Ancestors
 pub mod Older
-pub mod Marks
-pub mod Coded
 pub mod Index
 pub mod Stretch
 pub mod Holds
 pub mod Lookup
 pub mod Decided
+pub mod Rises

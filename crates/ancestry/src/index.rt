@@ -5,7 +5,7 @@ ghost use lib.ListN.{length};
 ghost use Rattle.meaning.specs.Words.{at};
 ghost use Rattle.meaning.specs.Rows.{edgeTable};
 ghost use Rattle.rules.specs.ByChild.{ByChild};
-ghost use Rattle.ancestry.specs.Column.{Even};
+ghost use Rattle.rules.specs.Asked.{EvenEdges};
 ghost use Rattle.ancestry.specs.Index.{Ends, Grouped, Passed, Skipped};
 
 // The cell of the edge at a place.
@@ -41,7 +41,7 @@ pub fn fill_ends(
     ends: &mut [u32],
 )
     requires { ⌜
-        Even (edgeTable (now left) (now right) (now parent) (now child))
+        EvenEdges (edgeTable (now left) (now right) (now parent) (now child))
         × ByChild (edgeTable (now left) (now right) (now parent) (now child)) (now «by_child»)
         × (length (now left) ≤ 4294967295) × (length (now ends) ≤ 4294967295) ⌝ }
     ensures { λ _. ⌜ Ends (now (child .entry)) (now («by_child» .entry)) (now (ends .exit)) ⌝ }

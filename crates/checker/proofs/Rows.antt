@@ -62,7 +62,7 @@ module _ (L : ℕ) (time : List ℕ) (E : EdgeColumns) (e : EvenEdges E) (h : (i
   -- rule 10: and the parent is older than the child
   pub rising : Rising time E
   rising = record {
-    even = record { right-long = e .right-long; parent-long = e .parent-long; child-long = e .child-long };
+    even = e;
     parent-row = λ i l. edge-whole L time E i (h i l) .parent-row;
     child-row = λ i l. edge-whole L time E i (h i l) .child-row;
     age = λ i l. edge-whole L time E i (h i l) .age;

@@ -17,7 +17,7 @@ use Rattle.laws.specs.Bools.{clash, eq?, some-inj, none-some, or-left}
 use Rattle.laws.specs.Counting.{length-rows, get-rows}
 use Rattle.bridge.specs.Parents.{no-row, code, parentRow}
 use Rattle.ancestry.specs.Column.{older, Rising}
-use Rattle.ancestry.specs.Coded.{parent-rises}
+use Rattle.ancestry.specs.Rises.{parent-rises}
 use Rattle.ancestry.specs.Older.{older-falls}
 use Rattle.ancestry.specs.Ancestors.{Above, here, step, Aged, ancestor-of, ancestor-none, ancestor-step}
 use Rattle.overtaking.specs.Stamps.{stamped, stampIf, StampedBut, StampedAbove, Stampable, StampedUp}

@@ -4,7 +4,7 @@ use mathlib.Core.List.{List, _++_}
 use Prim.Native.Nat.{ℕ, _<_, _≤_, _-_}
 use lib.ListN.{length, drop, set, replicate}
 use borrow.Author.Fill.{fill-more}
-use Rattle.ancestry.proofs.Filling.{all-filled}
+use Rattle.alleles.proofs.Filling.{all-filled}
 use native.Mathlib.Omega.{arith}
 use borrow.Author.Needs.{needs}
 use Rattle.alleles.proofs.clear.Statement.{statement}
