@@ -34,7 +34,7 @@ module _ (x : ℕ) {T l r pa ch bl br : List ℕ} {n i j next : ℕ} (pl : Plan 
   }
 
   -- "nothing changes": the forest of rows is the same up to the next change
-  forest-same : (y : ℕ) → x ≤ y → y < next → parentRow (columns l r pa ch) x ≡ parentRow (columns l r pa ch) y
+  pub forest-same : (y : ℕ) → x ≤ y → y < next → parentRow (columns l r pa ch) x ≡ parentRow (columns l r pa ch) y
   unfolding parentRow edgesOf
   forest-same y a b = forest-still x y a (edgesOf (λ v. v) (columns l r pa ch)) (all-rows (Still x y) (λ e. record { left = at l e; right = at r e; parent = at pa e; child = at ch e }) (length l) (still-edge y a b))
 
