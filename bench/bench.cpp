@@ -18,7 +18,8 @@ struct Shape {
 };
 
 static const Shape shapes[] = {
-    {"wright-fisher", wright_fisher}, {"line", line_under_changes}, {"comb", comb}, {"one-parent", one_parent}, {"one-child", one_child}};
+    {"wright-fisher", wright_fisher}, {"marked", marked}, {"deep", deep}, {"shuffled", shuffled}, {"line", line_under_changes},
+    {"plain-line", plain_line}, {"comb", comb}, {"one-parent", one_parent}, {"one-child", one_child}};
 
 // The check alone: a cleaning whose last sample is there twice is refused with 12, after every other rule.
 static std::vector<std::uint32_t> repeated(const Tables &t) {

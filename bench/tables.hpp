@@ -62,20 +62,24 @@ struct Draw {
     }
 };
 
-// So many sites spread over the chromosome, each with one mutation on a row drawn among those with an edge below.
-inline void mutate(Tables &t, std::size_t sites, Draw &draw) {
+// So many sites spread over the chromosome, each with so many mutations on rows drawn among all, older rows first.
+inline void mutate(Tables &t, std::size_t sites, Draw &draw, std::size_t each = 1) {
     for (std::size_t i = 0; i < sites; ++i) {
         t.position.push_back(t.cut(i, sites));
         t.ancestral.push_back(65);
-        t.site.push_back(static_cast<std::uint32_t>(i));
-        t.node.push_back(draw(static_cast<std::uint32_t>(t.time.size())));
-        t.derived.push_back(84);
+        std::vector<std::uint32_t> rows;
+        for (std::size_t k = 0; k < each; ++k) rows.push_back(draw(static_cast<std::uint32_t>(t.time.size())));
+        std::stable_sort(rows.begin(), rows.end(), [&](std::uint32_t a, std::uint32_t b) { return t.time[a] > t.time[b]; });
+        for (auto row : rows) {
+            t.site.push_back(static_cast<std::uint32_t>(i));
+            t.node.push_back(row);
+            t.derived.push_back(84);
+        }
     }
 }
 
-// Wright-Fisher: 64 strands in each of so many generations, one crossing-over for each birth; the youngest are sampled.
-inline Tables wright_fisher(std::size_t nodes) {
-    const std::uint32_t size = 64;
+// Wright-Fisher: so many strands in each of so many generations, one crossing-over for each birth; the youngest are sampled.
+inline Tables generations_of(std::uint32_t size, std::size_t nodes, std::size_t sites, std::size_t each) {
     const std::uint32_t generations = static_cast<std::uint32_t>(nodes / size);
     Tables t;
     Draw draw;
@@ -90,6 +94,45 @@ inline Tables wright_fisher(std::size_t nodes) {
             t.add_edge(cut, t.len, (g - 1) * size + fish + 1 - first, g * size + i);
         }
     for (std::uint32_t i = 0; i < size; ++i) t.samples.push_back(t.birth[(generations - 1) * size + i]);
+    t.order();
+    mutate(t, sites, draw, each);
+    return t;
+}
+
+inline Tables wright_fisher(std::size_t nodes) { return generations_of(64, nodes, nodes / 2, 1); }
+
+// The same with eight mutations at each of fewer sites: rule 10 has ways to go.
+inline Tables marked(std::size_t nodes) { return generations_of(64, nodes, nodes / 8, 8); }
+
+// A deep history: 8 strands, and eight times as many generations.
+inline Tables deep(std::size_t nodes) { return generations_of(8, nodes, nodes / 2, 1); }
+
+// The same as Wright-Fisher with the node rows in any order.
+inline Tables shuffled(std::size_t nodes) {
+    Tables t = wright_fisher(nodes);
+    Draw draw;
+    std::vector<std::uint32_t> to(t.time.size());
+    for (std::uint32_t i = 0; i < to.size(); ++i) to[i] = i;
+    for (std::uint32_t i = static_cast<std::uint32_t>(to.size()) - 1; i > 0; --i) std::swap(to[i], to[draw(i + 1)]);
+    Tables u = t;
+    for (std::uint32_t i = 0; i < to.size(); ++i) {
+        u.time[to[i]] = t.time[i];
+        u.birth[to[i]] = t.birth[i];
+    }
+    for (auto &p : u.parent) p = to[p];
+    for (auto &c : u.child) c = to[c];
+    for (auto &n : u.node) n = to[n];
+    return u;
+}
+
+// One long line under one sample, all of it from end to end: its edges begin together, the youngest first in the table.
+inline Tables plain_line(std::size_t nodes) {
+    Tables t;
+    Draw draw;
+    t.len = 1 << 20;
+    for (std::uint32_t i = 0; i < nodes; ++i) t.add_node(i, 1 + i);
+    for (std::uint32_t i = 0; i + 1 < nodes; ++i) t.add_edge(0, t.len, i + 1, i);
+    t.samples = {1};
     t.order();
     mutate(t, nodes / 2, draw);
     return t;
