@@ -1,7 +1,7 @@
 // After the sweep: the rows kept and their places, the edges' order, and places for rows.
 ghost use mathlib.Core.Path.{_≡_};
 ghost use mathlib.Core.List.{map};
-ghost use Prim.Native.Nat.{ℕ, _+_, _<_, _≤_};
+ghost use Prim.Native.Nat.{ℕ, _+_, _-_, _<_, _≤_};
 ghost use lib.ListN.{length, take};
 ghost use Rattle.meaning.specs.Words.{at, rows};
 ghost use Rattle.meaning.specs.Rows.{nodeTable};
@@ -17,6 +17,29 @@ pub fn ranked(k0: &[u32], k1: &[u32], k2: &[u32], k3: &[u32], idx: &mut [u32])
     ensures { λ _. ⌜ SortedFrom (byKeys (now (k0 .entry)) (now (k1 .entry)) (now (k2 .entry)) (now (k3 .entry))) (rows (λ i. i) (length (now (k0 .entry)))) (now (idx .exit)) ⌝ }
 {
     order::iota(idx);
+    order::sort_rows(k0, k1, k2, k3, idx);
+}
+
+// Fills a column with its own row numbers from the last one down.
+fn iota_down(idx: &mut [u32])
+    requires { ⌜ length (now idx) ≤ 4294967296 ⌝ }
+    ensures { λ _. ⌜ now (idx .exit) ≡ rows (λ i. length (now (idx .entry)) - (i + 1)) (length (now (idx .entry))) ⌝ }
+{
+    let n = idx.len();
+    let mut i = 0;
+    while i < n {
+        idx[i] = (n - (i + 1)) as u32;
+        i += 1;
+    }
+}
+
+// The same order as `ranked` gives; where rows tie, a stable sort leaves the later row first. Of edges that begin together the one with
+// the older parent then comes first, and what enters the tree dead costs nothing.
+pub fn ranked_down(k0: &[u32], k1: &[u32], k2: &[u32], k3: &[u32], idx: &mut [u32])
+    requires { ⌜ Columns (now k0) (now k1) (now k2) (now k3) × (length (now idx) ≡ length (now k0)) × (length (now k0) ≤ 4294967296) ⌝ }
+    ensures { λ _. ⌜ SortedFrom (byKeys (now (k0 .entry)) (now (k1 .entry)) (now (k2 .entry)) (now (k3 .entry))) (rows (λ i. i) (length (now (k0 .entry)))) (now (idx .exit)) ⌝ }
+{
+    iota_down(idx);
     order::sort_rows(k0, k1, k2, k3, idx);
 }
 

@@ -112,7 +112,7 @@ pub fn trace(
     let mut bl = [0u32; EdgeTable::MOST];
     let mut br = [0u32; EdgeTable::MOST];
     keeping::sample_rows(birth, samples, kept, &mut sample[..n]);
-    crate::rank::ranked(left, left, left, left, &mut bl[..e]);
+    crate::rank::ranked_down(left, left, left, left, &mut bl[..e]);
     crate::rank::ranked(right, right, right, right, &mut br[..e]);
     swept(
         len,
