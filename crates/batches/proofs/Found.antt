@@ -15,6 +15,7 @@ use Rattle.meaning.specs.Check.{repeated, edgeShared, mutationAbove, overtakes}
 use Rattle.meaning.specs.Join.{BatchTables, batchBirth, batchEdge, batchMutation, batchRules, timeIn}
 use Rattle.laws.specs.Bools.{or-of, or-no, not-no}
 use Rattle.rules.specs.Asked.{EvenEdges}
+use Rattle.rules.specs.Lined.{Somewhere}
 use Rattle.bridge.specs.Columns.{Apart}
 use Rattle.ancestry.specs.Column.{Rising}
 use Rattle.checker.proofs.Rows.{apart}
@@ -50,6 +51,10 @@ module _ (L : ℕ) (T : Tables) (B : BatchTables) where
   module _ (asked : BatchAsked T B) where
     pub batch-even : EvenEdges (B .edges)
     batch-even = record { right-long = asked .shaped .rights; parent-long = asked .shaped .parents; child-long = asked .shaped .children }
+
+    -- e is the row that the search for 23 gave: every edge holds somewhere, so 24 may be asked
+    pub shared-asked : (e : ℕ) → e ≡ lowest (batchEdge L (T .nodes) (B .nodes) (B .edges)) (length (B .edges .left)) → length (B .edges .left) ≤ e → EvenEdges (B .edges) × Somewhere (B .edges) × (length (B .edges .left) ≤ limits .edges)
+    shared-asked e p l = (batch-even, record { held = λ i k. edge-right i (none-found _ _ e p l i k) .some-position }, omega (arith, asked .edges))
 
     -- b, e and m are the rows that the searches for 22, 23 and 25 gave
     module _ (b : ℕ) (pb : b ≡ lowest (batchBirth (T .nodes .birth) (B .nodes .birth)) (length (B .nodes .birth))) (lb : length (B .nodes .birth) ≤ b) (e : ℕ) (pe : e ≡ lowest (batchEdge L (T .nodes) (B .nodes) (B .edges)) (length (B .edges .left))) (le : length (B .edges .left) ≤ e) where

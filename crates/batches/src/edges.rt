@@ -1,13 +1,17 @@
-// Rule 23: the edges of a batch by birth number.
+// Rules 23 and 24: the edges of a batch by birth number.
 ghost use mathlib.Core.Path.{_≡_};
 ghost use mathlib.Core.Bool.{not};
 ghost use Prim.Native.Nat.{_<_, _≤_};
 ghost use lib.ListN.{length};
 ghost use Rattle.meaning.specs.Words.{or, mem, lowest};
 ghost use Rattle.meaning.specs.Rows.{nodeTable, edgeTable};
+ghost use Rattle.meaning.specs.Answer.{limits};
+ghost use Rattle.meaning.specs.Check.{edgeShared};
 ghost use Rattle.meaning.specs.Join.{batchEdge};
 ghost use Rattle.rules.specs.Asked.{EvenEdges};
+ghost use Rattle.rules.specs.Lined.{Somewhere};
 ghost use Rattle.order.specs.Ranks.{Helps};
+use meaning::EdgeTable;
 use meaning::NodeTable;
 
 // Whether the birth b is in neither column; baseidx and idx help to find it.
@@ -187,4 +191,17 @@ pub fn first_batch_edge(
         parent,
         child,
     )
+}
+
+// 24: the lowest edge that shares a position with an earlier edge of its child, by rule 7, whose order of the edges no later rule of a batch needs.
+pub fn first_batch_shared(left: &[u32], right: &[u32], parent: &[u32], child: &[u32]) -> usize
+    requires { ⌜
+        EvenEdges
+        (edgeTable (now left) (now right) (now parent) (now child)) × Somewhere
+        (edgeTable (now left) (now right) (now parent) (now child)) × (length (now left) ≤ limits .edges) ⌝ }
+    ensures { λ r. ⌜ r ≡ lowest (edgeShared (edgeTable (now (left .entry)) (now (right .entry)) (now (parent .entry)) (now (child .entry)))) (length (now (left .entry))) ⌝ }
+{
+    let n = left.len();
+    let mut by_child = [0u32; EdgeTable::MOST];
+    rules::edges::first_shared(left, right, parent, child, &mut by_child[..n])
 }

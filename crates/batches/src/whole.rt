@@ -102,7 +102,7 @@ pub fn rules_checked(
     if e < left.len() {
         return Checked::Refused(Refusal::BatchEdge(e));
     }
-    let s = rules::edges::first_shared(left, right, parent, child);
+    let s = crate::edges::first_batch_shared(left, right, parent, child);
     if s < left.len() {
         return Checked::Refused(Refusal::BatchShared(s));
     }

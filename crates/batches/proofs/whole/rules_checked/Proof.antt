@@ -1,11 +1,11 @@
--- `rules_checked` meets its contract: each way out is one rule, and 26 is asked of rows that 22, 23 and 25 have passed.
+-- `rules_checked` meets its contract: each way out is one rule; 24 is asked of rows that 23 has passed, and 26 of rows that 22, 23 and 25 have.
 use borrow.Author.Needs.{needs}
 use Rattle.batches.proofs.whole.rules_checked.Statement.{statement}
 use Rattle.batches.proofs.whole.rules_checked.Tie as tie
 use mathlib.Core.Path.{sym, _∙_}
 use Rattle.meaning.specs.Join.{batchRules}
 use Rattle.checker.proofs.Order.{row-found, row-none}
-use Rattle.batches.proofs.Found.{above-asked, above-refused, batch-passes}
+use Rattle.batches.proofs.Found.{shared-asked, above-asked, above-refused, batch-passes}
 
 first-batch-birth-requires : tie.Need-first-batch-birth-requires
 first-batch-birth-requires c κs = search needs
@@ -21,28 +21,28 @@ returns-2 : tie.Need-returns-2
 unfolding batchRules
 returns-2 c = sym (row-none _ _ _ _ _ (c .before .before .before .first-batch-birth .ensures) (c .before .before .if1 .left) ∙ row-found _ _ _ _ _ (c .before .first-batch-edge .ensures) (c .if2 .taken))
 
-first-shared-requires : tie.Need-first-shared-requires
-first-shared-requires c κs = search needs
+first-batch-shared-requires : tie.Need-first-batch-shared-requires
+first-batch-shared-requires c κs = shared-asked _ _ _ (c .before .before .before .before .before .before .before .before .before .before .before .before .before .before .before .before .before .before .before .before .pre) _ (c .before .first-batch-edge .ensures) (c .if2 .left)
 
 returns-3 : tie.Need-returns-3
 unfolding batchRules
-returns-3 c = sym (row-none _ _ _ _ _ (c .before .before .before .before .before .first-batch-birth .ensures) (c .before .before .before .before .if1 .left) ∙ row-none _ _ _ _ _ (c .before .before .before .first-batch-edge .ensures) (c .before .before .if2 .left) ∙ row-found _ _ _ _ _ (c .before .first-shared .ensures) (c .if3 .taken))
+returns-3 c = sym (row-none _ _ _ _ _ (c .before .before .before .before .before .first-batch-birth .ensures) (c .before .before .before .before .if1 .left) ∙ row-none _ _ _ _ _ (c .before .before .before .first-batch-edge .ensures) (c .before .before .if2 .left) ∙ row-found _ _ _ _ _ (c .before .first-batch-shared .ensures) (c .if3 .taken))
 
 first-batch-mutation-requires : tie.Need-first-batch-mutation-requires
 first-batch-mutation-requires c κs = search needs
 
 returns-4 : tie.Need-returns-4
 unfolding batchRules
-returns-4 c = sym (row-none _ _ _ _ _ (c .before .before .before .before .before .before .before .first-batch-birth .ensures) (c .before .before .before .before .before .before .if1 .left) ∙ row-none _ _ _ _ _ (c .before .before .before .before .before .first-batch-edge .ensures) (c .before .before .before .before .if2 .left) ∙ row-none _ _ _ _ _ (c .before .before .before .first-shared .ensures) (c .before .before .if3 .left) ∙ row-found _ _ _ _ _ (c .before .first-batch-mutation .ensures) (c .if4 .taken))
+returns-4 c = sym (row-none _ _ _ _ _ (c .before .before .before .before .before .before .before .first-batch-birth .ensures) (c .before .before .before .before .before .before .if1 .left) ∙ row-none _ _ _ _ _ (c .before .before .before .before .before .first-batch-edge .ensures) (c .before .before .before .before .if2 .left) ∙ row-none _ _ _ _ _ (c .before .before .before .first-batch-shared .ensures) (c .before .before .if3 .left) ∙ row-found _ _ _ _ _ (c .before .first-batch-mutation .ensures) (c .if4 .taken))
 
 first-batch-above-requires : tie.Need-first-batch-above-requires
 first-batch-above-requires c κs = above-asked _ _ _ (c .before .before .before .before .before .before .before .before .before .before .before .before .before .before .before .before .before .before .before .before .before .before .before .before .pre) _ (c .before .before .before .before .before .before .before .first-batch-birth .ensures) (c .before .before .before .before .before .before .if1 .left) _ (c .before .before .before .before .before .first-batch-edge .ensures) (c .before .before .before .before .if2 .left) _ (c .before .first-batch-mutation .ensures) (c .if4 .left)
 
 returns-5 : tie.Need-returns-5
-returns-5 c = above-refused _ _ _ _ _ _ _ _ (c .before .before .before .before .before .before .before .before .before .first-batch-birth .ensures) (c .before .before .before .before .before .before .before .before .if1 .left) (c .before .before .before .before .before .before .before .first-batch-edge .ensures) (c .before .before .before .before .before .before .if2 .left) (c .before .before .before .before .before .first-shared .ensures) (c .before .before .before .before .if3 .left) (c .before .before .before .first-batch-mutation .ensures) (c .before .before .if4 .left) (c .before .first-batch-above .ensures) (c .if5 .taken)
+returns-5 c = above-refused _ _ _ _ _ _ _ _ (c .before .before .before .before .before .before .before .before .before .first-batch-birth .ensures) (c .before .before .before .before .before .before .before .before .if1 .left) (c .before .before .before .before .before .before .before .first-batch-edge .ensures) (c .before .before .before .before .before .before .if2 .left) (c .before .before .before .before .before .first-batch-shared .ensures) (c .before .before .before .before .if3 .left) (c .before .before .before .first-batch-mutation .ensures) (c .before .before .if4 .left) (c .before .first-batch-above .ensures) (c .if5 .taken)
 
 returns-6 : tie.Need-returns-6
-returns-6 c = batch-passes _ _ _ _ _ _ _ _ (c .before .before .before .before .before .before .before .before .before .first-batch-birth .ensures) (c .before .before .before .before .before .before .before .before .if1 .left) (c .before .before .before .before .before .before .before .first-batch-edge .ensures) (c .before .before .before .before .before .before .if2 .left) (c .before .before .before .before .before .first-shared .ensures) (c .before .before .before .before .if3 .left) (c .before .before .before .first-batch-mutation .ensures) (c .before .before .if4 .left) (c .before .first-batch-above .ensures) (c .if5 .left)
+returns-6 c = batch-passes _ _ _ _ _ _ _ _ (c .before .before .before .before .before .before .before .before .before .first-batch-birth .ensures) (c .before .before .before .before .before .before .before .before .if1 .left) (c .before .before .before .before .before .before .before .first-batch-edge .ensures) (c .before .before .before .before .before .before .if2 .left) (c .before .before .before .before .before .first-batch-shared .ensures) (c .before .before .before .before .if3 .left) (c .before .before .before .first-batch-mutation .ensures) (c .before .before .if4 .left) (c .before .first-batch-above .ensures) (c .if5 .left)
 
 pub rules-checked-spec : {M : Type 1} → statement M
 rules-checked-spec =
@@ -52,7 +52,7 @@ rules-checked-spec =
     returns
     first-batch-edge-requires
     returns-2
-    first-shared-requires
+    first-batch-shared-requires
     returns-3
     first-batch-mutation-requires
     returns-4
