@@ -10,15 +10,22 @@ use lib.ListN.{length, length-map}
 use borrow.Author.Tests.{eq-eqb, eqb-true}
 use Rattle.meaning.specs.Words.{and, at, anyBelow, lowest}
 use Rattle.meaning.specs.Rows.{EdgeColumns}
+use Rattle.meaning.specs.Answer.{put}
+use Rattle.meaning.specs.Check.{edgeShared}
 use Rattle.meaning.specs.Forest.{ancestor}
 use Rattle.laws.specs.Bools.{bool-ext, and-of, and-yes}
 use Rattle.laws.specs.Counting.{below-of, of-below}
 use Rattle.laws.specs.Members.{at-map}
+use Rattle.rules.specs.Asked.{EvenEdges}
+use Rattle.rules.specs.Lined.{Somewhere}
 use Rattle.bridge.specs.Columns.{lowest-same}
 use Rattle.ancestry.specs.Column.{parentRow}
 use Rattle.order.specs.Lex.{trichotomy}
+use Rattle.order.specs.Order.{Inside}
 use Rattle.order.specs.Ranks.{Ranked}
 use Rattle.overtaking.specs.Overtaken.{over, overtaken, overtakenRow, Lined}
+use Rattle.batches.specs.Asked.{Unlined}
+use Rattle.batches.proofs.Fronts.{put-whole}
 
 module _ (E : EdgeColumns) (position site node : List ℕ) where
   -- mutation j is of row k's site, and row k's node is above its node
@@ -115,3 +122,37 @@ module _ (E : EdgeColumns) (position site node row : List ℕ) (r : Ranked site 
     node-row = λ p l. let m : p < length site = omega (arith, sites-long) in omega (arith, node-cell p m, g (at row p) (r .row p m));
     rise = λ p l. let m : suc p < length site = omega (arith, sites-long) in omega (arith, site-cell p (omega arith), site-cell (suc p) m, r .rising p (suc p) (omega arith) m);
   }
+
+-- ---- as the search holds them
+
+-- the rows by site name rows
+pub ranked-inside : {l idx : List ℕ} (n : ℕ) → n ≡ length l → Ranked l idx → Inside n idx
+ranked-inside n e r = record { row = λ p h. omega (arith, r .row p (omega (arith, r .long))) }
+
+module _ {len : ℕ} {time : List ℕ} {E : EdgeColumns} {position site node : List ℕ} (k : Unlined len time E position site node) where
+  -- what the edges by child ask
+  pub unlined-edges : {m : ℕ} → m ≡ length (E .left) → EvenEdges E × Somewhere E × (m ≡ length (E .left)) × (length (E .left) ≤ 4294967296) × ((i : ℕ) → i < length (E .left) → edgeShared E i ≡ false)
+  unlined-edges e = (
+    record { right-long = k .rising .even .right-long; parent-long = k .rising .even .parent-long; child-long = k .rising .even .child-long },
+    record { held = k .whole .held },
+    e,
+    omega (arith, k .edges),
+    k .apart,
+  )
+
+  -- their sites and nodes stand in columns that are as long
+  module _ {row rowsite' rownode' : List ℕ} (oldsite oldnode : List ℕ) (r : Ranked site row) (ls : length oldsite ≡ length site) (es : rowsite' ≡ put (map (at site) row) oldsite) (ln : length oldnode ≡ length site) (en : rownode' ≡ put (map (at node) row) oldnode) where
+    sites-are : rowsite' ≡ map (at site) row
+    sites-are = es ∙ put-whole (map (at site) row) oldsite (ls ∙ sym (sites-long E position site node row r))
+
+    nodes-are : rownode' ≡ map (at node) row
+    nodes-are = en ∙ put-whole (map (at node) row) oldnode (ln ∙ sym (nodes-long E position site node row r))
+
+    pub held-lined : Lined (length position) (length time) rowsite' rownode'
+    held-lined = rw (sites-are, nodes-are) (by-site-lined E position site node row r (length position) (length time) (k .site-row) (k .node-row))
+
+    pub held-long : length row ≡ length rowsite'
+    held-long = r .long ∙ sym (ap length sites-are ∙ sites-long E position site node row r)
+
+    pub held-lowest : (x : ℕ) → x ≡ lowest (overtakenRow E position rowsite' rownode' row) (length rowsite') → x ≡ lowest (overtaken E position site node) (length site)
+    held-lowest x e = e ∙ ap₂ (λ s v. lowest (overtakenRow E position s v row) (length s)) sites-are nodes-are ∙ lowest-overtaken E position site node row r
