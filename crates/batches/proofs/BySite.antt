@@ -1,9 +1,9 @@
 -- Mutations in the order of their sites, the lower row first: each is above an earlier one of its site exactly where its row is.
-use mathlib.Core.Path.{_≡_, refl, sym, ap, ap₂, subst, _∙_}
+use mathlib.Core.Path.{_≡_, sym, ap, ap₂, subst, _∙_}
 use mathlib.Core.Bool.{Bool, true, false}
 use mathlib.Core.List.{List, map}
 use mathlib.Core.Logic.{_⊎_, ⊎-elim}
-use Prim.Native.Nat.{ℕ, zero, suc, _+_, _<_, _≤_}
+use Prim.Native.Nat.{ℕ, suc, _<_, _≤_}
 use native.Mathlib.Omega.{arith}
 use lib.Dec.{eqb}
 use lib.ListN.{length, length-map}
@@ -141,18 +141,18 @@ module _ {len : ℕ} {time : List ℕ} {E : EdgeColumns} {position site node : L
   )
 
   -- their sites and nodes stand in columns that are as long
-  module _ {row rowsite' rownode' : List ℕ} (oldsite oldnode : List ℕ) (r : Ranked site row) (ls : length oldsite ≡ length site) (es : rowsite' ≡ put (map (at site) row) oldsite) (ln : length oldnode ≡ length site) (en : rownode' ≡ put (map (at node) row) oldnode) where
-    sites-are : rowsite' ≡ map (at site) row
+  module _ {row heldsite heldnode : List ℕ} (oldsite oldnode : List ℕ) (r : Ranked site row) (ls : length oldsite ≡ length site) (es : heldsite ≡ put (map (at site) row) oldsite) (ln : length oldnode ≡ length site) (en : heldnode ≡ put (map (at node) row) oldnode) where
+    sites-are : heldsite ≡ map (at site) row
     sites-are = es ∙ put-whole (map (at site) row) oldsite (ls ∙ sym (sites-long E position site node row r))
 
-    nodes-are : rownode' ≡ map (at node) row
+    nodes-are : heldnode ≡ map (at node) row
     nodes-are = en ∙ put-whole (map (at node) row) oldnode (ln ∙ sym (nodes-long E position site node row r))
 
-    pub held-lined : Lined (length position) (length time) rowsite' rownode'
+    pub held-lined : Lined (length position) (length time) heldsite heldnode
     held-lined = rw (sites-are, nodes-are) (by-site-lined E position site node row r (length position) (length time) (k .site-row) (k .node-row))
 
-    pub held-long : length row ≡ length rowsite'
+    pub held-long : length row ≡ length heldsite
     held-long = r .long ∙ sym (ap length sites-are ∙ sites-long E position site node row r)
 
-    pub held-lowest : (x : ℕ) → x ≡ lowest (overtakenRow E position rowsite' rownode' row) (length rowsite') → x ≡ lowest (overtaken E position site node) (length site)
+    pub held-lowest : (x : ℕ) → x ≡ lowest (overtakenRow E position heldsite heldnode row) (length heldsite) → x ≡ lowest (overtaken E position site node) (length site)
     held-lowest x e = e ∙ ap₂ (λ s v. lowest (overtakenRow E position s v row) (length s)) sites-are nodes-are ∙ lowest-overtaken E position site node row r

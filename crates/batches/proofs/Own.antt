@@ -1,16 +1,16 @@
 -- The batch's own edges by rows: they decide the parents of the batch's rows, so 26 needs no edge of the base.
-use mathlib.Core.Path.{_≡_, refl, sym, ap, ap₂, subst, _∙_}
-use mathlib.Core.Bool.{Bool, true, false}
+use mathlib.Core.Path.{_≡_, refl, sym, ap, ap₂, _∙_}
+use mathlib.Core.Bool.{true, false}
 use mathlib.Core.List.{List, _++_}
 use mathlib.Core.Option.{Option, none, some}
 use mathlib.Core.Logic.{⊎-elim}
 use Prim.Native.Nat.{ℕ, _+_, _-_, _<_, _≤_}
 use native.Mathlib.Omega.{arith}
 use lib.Dec.{eqb, leb, ltb}
-use lib.ListN.{length, length-append, length-map}
+use lib.ListN.{length, length-map}
 use borrow.Author.Tests.{ne-eqb}
 use Rattle.meaning.specs.Words.{and, at, mem, indexOf, lowest, rows, rowsFrom}
-use Rattle.meaning.specs.Rows.{EdgeColumns, Tables, Edge, edgesOf}
+use Rattle.meaning.specs.Rows.{EdgeColumns, Tables, edgesOf}
 use Rattle.meaning.specs.Forest.{holds, parentIn, ancestor}
 use Rattle.meaning.specs.Check.{share, edgeShared, mutationAbove}
 use Rattle.meaning.specs.Join.{BatchTables}
@@ -48,17 +48,17 @@ module _ (L : ℕ) (T : Tables) (B : BatchTables) (j : Joint L T B) where
 
   -- ---- the own edges stand behind the base's
 
-  left-behind : (i : ℕ) → at (joint .left) (base + i) ≡ at (own .left) i
-  left-behind i = behind (T .edges .left) (own .left) base i refl
+  left-cell : (i : ℕ) → at (joint .left) (base + i) ≡ at (own .left) i
+  left-cell i = behind (T .edges .left) (own .left) base i refl
 
-  right-behind : (i : ℕ) → at (joint .right) (base + i) ≡ at (own .right) i
-  right-behind i = behind (T .edges .right) (own .right) base i (j .rising .even .right-long)
+  right-cell : (i : ℕ) → at (joint .right) (base + i) ≡ at (own .right) i
+  right-cell i = behind (T .edges .right) (own .right) base i (j .rising .even .right-long)
 
-  parent-behind' : (i : ℕ) → at (joint .parent) (base + i) ≡ at (own .parent) i
-  parent-behind' i = behind (T .edges .parent) (own .parent) base i (j .rising .even .parent-long)
+  parent-cell : (i : ℕ) → at (joint .parent) (base + i) ≡ at (own .parent) i
+  parent-cell i = behind (T .edges .parent) (own .parent) base i (j .rising .even .parent-long)
 
-  child-behind : (i : ℕ) → at (joint .child) (base + i) ≡ at (own .child) i
-  child-behind i = behind (T .edges .child) (own .child) base i (j .rising .even .child-long)
+  child-cell : (i : ℕ) → at (joint .child) (base + i) ≡ at (own .child) i
+  child-cell i = behind (T .edges .child) (own .child) base i (j .rising .even .child-long)
 
   inside : (i : ℕ) → i < length (B .edges .left) → base + i < length (joint .left)
   inside i l = omega (arith, joint-rows L T B j)
@@ -70,9 +70,9 @@ module _ (L : ℕ) (T : Tables) (B : BatchTables) (j : Joint L T B) where
       parent-long = length-map (B .edges .parent) (λ b. indexOf b all) ∙ j .even .parent-long;
       child-long = length-map (B .edges .child) (λ b. indexOf b all) ∙ j .even .child-long;
     };
-    parent-row = λ i l. omega (arith, parent-behind' i, rises .parent-row (base + i) (inside i l));
-    child-row = λ i l. omega (arith, child-behind i, rises .child-row (base + i) (inside i l));
-    age = λ i l. omega (arith, ap (at (allTimes T B)) (parent-behind' i), ap (at (allTimes T B)) (child-behind i), rises .age (base + i) (inside i l));
+    parent-row = λ i l. omega (arith, parent-cell i, rises .parent-row (base + i) (inside i l));
+    child-row = λ i l. omega (arith, child-cell i, rises .child-row (base + i) (inside i l));
+    age = λ i l. omega (arith, ap (at (allTimes T B)) (parent-cell i), ap (at (allTimes T B)) (child-cell i), rises .age (base + i) (inside i l));
   }
     where
       rises : Rising (allTimes T B) joint
@@ -128,7 +128,7 @@ module _ (L : ℕ) (T : Tables) (B : BatchTables) (j : Joint L T B) where
     unfolding parentRow edgesOf rows holds
     same-parent u h =
         ap (λ n. parentIn (rowsFrom (rowOf joint) 0 n) x u) (joint-rows L T B j)
-        ∙ parent-behind x u (rowOf joint) (rowOf own) base (length (B .edges .left)) misses (λ e l. edge-same _ _ _ _ _ _ _ _ (left-behind e) (right-behind e) (parent-behind' e) (child-behind e))
+        ∙ parent-behind x u (rowOf joint) (rowOf own) base (length (B .edges .left)) misses (λ e l. edge-same _ _ _ _ _ _ _ _ (left-cell e) (right-cell e) (parent-cell e) (child-cell e))
       where
         misses : (e : ℕ) → e < base → and (eqb (at (joint .child) e) u) (and (leb (at (joint .left) e) x) (ltb x (at (joint .right) e))) ≡ false
         misses e l =
@@ -153,7 +153,7 @@ module _ (L : ℕ) (T : Tables) (B : BatchTables) (j : Joint L T B) where
             (λ (k : base ≤ e).
             let i : e - base < length (B .edges .left) = omega (arith, joint-rows L T B j) in
             let w : base + (e - base) ≡ e = omega arith in
-            absurd (omega (arith, own-child-behind (e - base) i, child-behind (e - base), ap (at (joint .child)) w)))
+            absurd (omega (arith, own-child-behind (e - base) i, child-cell (e - base), ap (at (joint .child)) w)))
             (before e base)
 
     own-ancestor : (a b : ℕ) → old ≤ a → old ≤ b → ancestor (parentRow own x) a b ≡ ancestor (parentRow joint x) a b

@@ -1,6 +1,5 @@
 // Rule 26: rule 10 among the mutations of a batch, which stand in any order of their sites. Nodes are named by their rows.
 ghost use mathlib.Core.Path.{_≡_};
-ghost use Prim.Native.Nat.{_+_};
 ghost use lib.ListN.{length};
 ghost use Rattle.meaning.specs.Words.{at, lowest};
 ghost use Rattle.overtaking.specs.Overtaken.{overtaken};
@@ -12,7 +11,7 @@ use meaning::EdgeTable;
 use meaning::MutationTable;
 use meaning::NodeTable;
 
-// The lowest mutation that is above an earlier one of its site, by the mutations in the order of their sites; the last four are working columns.
+// The lowest mutation that is above an earlier one of its site, found with the mutations in the order of their sites; the last four are working columns.
 fn lowest_by_site(
     len: u32,
     time: &[u32],
@@ -96,7 +95,7 @@ fn lowest_overtaken(
     )
 }
 
-// 26: the lowest batch mutation that is above an earlier one of its site. The batch's edges alone decide it: whatever is above a row of the base is one of the base's.
+// 26: the lowest batch mutation that is above an earlier one of its site; the batch's edges alone decide, since all that is above a base node is in the base.
 pub fn first_batch_above(
     len: u32,
     basetime: &[u32],

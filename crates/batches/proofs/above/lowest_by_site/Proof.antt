@@ -1,9 +1,8 @@
 -- `lowest_by_site` meets its contract: rule 10's routine is given the mutations by site, and its row is the lowest of the batch.
 use native.Mathlib.Omega.{arith}
-use borrow.Author.Needs.{needs}
 use Rattle.batches.proofs.above.lowest_by_site.Statement.{statement}
 use Rattle.batches.proofs.above.lowest_by_site.Tie as tie
-use mathlib.Core.Path.{refl, sym}
+use mathlib.Core.Path.{refl}
 use Rattle.batches.proofs.BySite.{ranked-inside, unlined-edges, held-lined, held-long, held-lowest}
 
 by-child-requires : tie.Need-by-child-requires

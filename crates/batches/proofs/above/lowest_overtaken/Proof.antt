@@ -1,5 +1,4 @@
 -- `lowest_overtaken` meets its contract: the working columns stand on the stack.
-use native.Mathlib.Omega.{arith}
 use borrow.Author.Needs.{needs}
 use Rattle.batches.proofs.above.lowest_overtaken.Statement.{statement}
 use Rattle.batches.proofs.above.lowest_overtaken.Tie as tie
