@@ -56,7 +56,7 @@ module _ (L : ℕ) (T : Tables) (B : BatchTables) where
     pub shared-asked : (e : ℕ) → e ≡ lowest (batchEdge L (T .nodes) (B .nodes) (B .edges)) (length (B .edges .left)) → length (B .edges .left) ≤ e → EvenEdges (B .edges) × Somewhere (B .edges) × (length (B .edges .left) ≤ limits .edges)
     shared-asked e p l = (batch-even, record { held = λ i k. edge-right i (none-found _ _ e p l i k) .some-position }, omega (arith, asked .edges))
 
-    -- b, e and m are the rows that the searches for 22, 23 and 25 gave
+    -- b, e, s and m are the rows that the searches for 22, 23, 24 and 25 gave
     module _ (b : ℕ) (pb : b ≡ lowest (batchBirth (T .nodes .birth) (B .nodes .birth)) (length (B .nodes .birth))) (lb : length (B .nodes .birth) ≤ b) (e : ℕ) (pe : e ≡ lowest (batchEdge L (T .nodes) (B .nodes) (B .edges)) (length (B .edges .left))) (le : length (B .edges .left) ≤ e) where
       pub joint-found : Joint L T B
       joint-found = record {
@@ -71,16 +71,18 @@ module _ (L : ℕ) (T : Tables) (B : BatchTables) where
         edge = λ i l. edge-right i (none-found _ _ e pe le i l);
       }
 
-      module _ (m : ℕ) (pm : m ≡ lowest (batchMutation (length (T .sites .position)) (B .nodes .birth) (B .muts)) (length (B .muts .site))) (lm : length (B .muts .site) ≤ m) where
+      module _ (s : ℕ) (ps : s ≡ lowest (edgeShared (B .edges)) (length (B .edges .left))) (ls : length (B .edges .left) ≤ s) (m : ℕ) (pm : m ≡ lowest (batchMutation (length (T .sites .position)) (B .nodes .birth) (B .muts)) (length (B .muts .site))) (lm : length (B .muts .site) ≤ m) where
         -- so 26 may be asked
-        pub above-asked : Above (T .nodes .time) (T .nodes .birth) (T .edges) (T .sites .position) (B .nodes .time) (B .nodes .birth) (B .edges) (B .muts .site) (B .muts .node)
+        pub above-asked : Above L (T .nodes .time) (T .nodes .birth) (T .edges) (T .sites .position) (B .nodes .time) (B .nodes .birth) (B .edges) (B .muts .site) (B .muts .node)
         above-asked =
             let j : _ = joint-found in
             record {
-              len = L;
               joint = record { base-long = j .base-long; long = j .long; few = j .few; base-once = j .base-once; once = j .once; fresh = j .fresh; rising = j .rising; even = j .even; edge = j .edge };
               edges = asked .edges;
+              sites = asked .sites;
               mutations = asked .mutations;
+              apart = λ i l. none-found _ _ s ps ls i l;
+              rightwards = asked .rightwards;
               node-long = asked .shaped .mutated;
               site-row = λ i l. mutation-parts i (none-found _ _ m pm lm i l) .0;
               node-in = λ i l. mutation-parts i (none-found _ _ m pm lm i l) .1;

@@ -5,7 +5,7 @@ use Prim.Native.Nat.{ℕ, zero, suc, _+_, _<_, _≤_, _-_}
 use native.Mathlib.Nat.{not-suc-le-zero, le-of-suc-le-suc}
 use native.Mathlib.Omega.{arith}
 use native.Mathlib.Numerals.{add-one}
-use lib.ListN.{length, getD, take, drop, set, length-append, length-take, length-drop, List·getD-append, length-set, length-map}
+use lib.ListN.{length, getD, take, drop, set, replicate, length-append, length-take, length-drop, length-replicate, List·getD-append, length-set, length-map}
 use lib.Seq.{take-at}
 use Rattle.meaning.specs.Words.{at}
 use Rattle.meaning.specs.Answer.{put}
@@ -103,3 +103,42 @@ module _ (l old out : List ℕ) (n : ℕ) (e : out ≡ put l old) (h : length l 
 
   pub part-long : n ≡ length (take n out)
   part-long = sym (ap length part ∙ sym q)
+
+-- two columns in a row, at the front of a column on the stack
+module _ (a b : List ℕ) (most : ℕ) {out : List ℕ} (e : out ≡ put (a ++ b) (replicate most 0)) (h : length a + length b ≤ most) where
+  room : length (a ++ b) ≤ length {A = ℕ} (replicate most 0)
+  room = simp (length-append, length-replicate) h
+
+  pub joined-room : length a + length b ≤ length out
+  joined-room = part-room (a ++ b) (replicate most 0) out (length a + length b) e room (sym (length-append a b))
+
+  pub joined-long : length a + length b ≡ length (take (length a + length b) out)
+  joined-long = part-long (a ++ b) (replicate most 0) out (length a + length b) e room (sym (length-append a b))
+
+  pub joined-part : take (length a + length b) out ≡ a ++ b
+  joined-part = part (a ++ b) (replicate most 0) out (length a + length b) e room (sym (length-append a b))
+
+-- a column's cells under a function, likewise
+module _ (f : ℕ → ℕ) (l : List ℕ) (most n : ℕ) {out : List ℕ} (e : out ≡ put (map f l) (replicate most 0)) (q : length l ≡ n) (h : n ≤ most) where
+  fits : length (map f l) ≤ length {A = ℕ} (replicate most 0)
+  fits = simp (length-map, length-replicate) (omega arith)
+
+  long : n ≡ length (map f l)
+  long = sym (length-map l f ∙ q)
+
+  pub mapped-room : n ≤ length out
+  mapped-room = part-room (map f l) (replicate most 0) out n e fits long
+
+  pub mapped-long : n ≡ length (take n out)
+  mapped-long = part-long (map f l) (replicate most 0) out n e fits long
+
+  pub mapped-part : take n out ≡ map f l
+  mapped-part = part (map f l) (replicate most 0) out n e fits long
+
+-- a list put into a column that is as long leaves nothing of it
+pub put-whole : (l old : List ℕ) → length old ≡ length l → put l old ≡ l
+unfolding put
+put-whole [] [] e = refl
+put-whole [] (y ∷ o) e = absurd (omega arith)
+put-whole (x ∷ l) [] e = absurd (omega arith)
+put-whole (x ∷ l) (y ∷ o) e = ap (λ (r : List ℕ). x ∷ r) (put-whole l o (omega arith))

@@ -2,7 +2,10 @@
 pub mod Born
 pub mod Tests
 pub mod Fronts
-pub mod Marking
+pub mod BySite
 pub mod Together
+pub mod Agreeing
 pub mod Reading
+pub mod Own
+pub mod Asking
 pub mod Found

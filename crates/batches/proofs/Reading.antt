@@ -1,5 +1,5 @@
 -- The edges and mutations of base and batch by rows, read back by births: the definitions' lists, and rule 26.
-use mathlib.Core.Path.{_≡_, refl, sym, ap, ap₂, subst, _∙_}
+use mathlib.Core.Path.{_≡_, refl, sym, ap, ap₂, _∙_}
 use mathlib.Core.Bool.{Bool, true, false}
 use mathlib.Core.List.{List, [], _∷_, _++_, map}
 use mathlib.Core.Logic.{_⊎_, inl, inr, ⊎-elim}
@@ -16,12 +16,11 @@ use Rattle.meaning.specs.Check.{mutationAbove, overtakes}
 use Rattle.laws.specs.Counting.{length-rows, get-rows}
 use Rattle.laws.specs.Members.{index-at, index-below, mem-right}
 use Rattle.bridge.specs.Columns.{Apart, edgeRow, any-same, lowest-same, births-lowest-10}
-use Rattle.ancestry.specs.Overtaken.{overtaken, lowest-10}
+use Rattle.overtaking.specs.Overtaken.{overtaken, lowest-10}
 use Rattle.accepted.specs.Batches.{edgesWith}
-use Rattle.batches.specs.Joint.{rowsIn, jointEdges, allBirths, allTimes, Joint}
-use Rattle.batches.specs.Marked.{Unlined}
+use Rattle.batches.specs.Joint.{rowsIn, jointEdges, allBirths, Joint}
 use Rattle.batches.proofs.Fronts.{get-left, get-right, get-map}
-use Rattle.batches.proofs.Together.{before, edge-same, all-long, all-once, parent-known, child-known, joint-rows, base-parent, base-child, batch-parent, batch-child, joint-parent-row, joint-child-row, joint-rising}
+use Rattle.batches.proofs.Together.{before, edge-same, all-long, all-once, parent-known, child-known, joint-rows, base-parent, base-child, batch-parent, batch-child, joint-parent-row, joint-child-row}
 
 abbrev pub no-edge : Edge
 no-edge = record { left = 0; right = 0; parent = 0; child = 0 }
@@ -84,24 +83,15 @@ module _ (L : ℕ) (T : Tables) (B : BatchTables) (j : Joint L T B) where
 
   -- ---- the mutations of the batch
 
-  module _ (node-long : length (B .muts .node) ≡ length (B .muts .site)) (site-row : (i : ℕ) → i < length (B .muts .site) → at (B .muts .site) i < length (T .sites .position)) (node-in : (i : ℕ) → i < length (B .muts .site) → mem (at (B .muts .node) i) (B .nodes .birth) ≡ true) where
+  module _ (node-long : length (B .muts .node) ≡ length (B .muts .site)) (node-in : (i : ℕ) → i < length (B .muts .site) → mem (at (B .muts .node) i) (B .nodes .birth) ≡ true) where
     node-known : (i : ℕ) → i < length (B .muts .site) → mem (at (B .muts .node) i) all ≡ true
     node-known i l = mem-right (at (B .muts .node) i) (T .nodes .birth) (B .nodes .birth) (node-in i l)
 
-    node-cell : (i : ℕ) → i < length (B .muts .site) → at (rowsIn all (B .muts .node)) i ≡ indexOf (at (B .muts .node) i) all
+    pub node-cell : (i : ℕ) → i < length (B .muts .site) → at (rowsIn all (B .muts .node)) i ≡ indexOf (at (B .muts .node) i) all
     node-cell i l = get-map (λ b. indexOf b all) (B .muts .node) i 0 0 (omega arith)
 
     pub batch-node-row : (i : ℕ) → i < length (B .muts .site) → at (rowsIn all (B .muts .node)) i < length all
     batch-node-row i l = omega (arith, node-cell i l, index-below (at (B .muts .node) i) all (node-known i l))
-
-    pub joint-unlined : Unlined (allTimes T B) joint (length (T .sites .position)) (B .muts .site) (rowsIn all (B .muts .node))
-    joint-unlined = record {
-      few = omega (arith, length-append (T .nodes .time) (B .nodes .time), j .few);
-      rising = joint-rising L T B j;
-      node-long = length-map (B .muts .node) (λ b. indexOf b all) ∙ node-long;
-      site-row = site-row;
-      node-row = λ i l. omega (arith, batch-node-row i l, all-long L T B j);
-    }
 
     abbrev byRow : MutationColumns
     byRow = record { site = B .muts .site; node = rowsIn all (B .muts .node); derived = B .muts .derived }
@@ -120,18 +110,3 @@ module _ (L : ℕ) (T : Tables) (B : BatchTables) (j : Joint L T B) where
         ∙ births-lowest-10 all joint (all-once L T B j) (record { parent-row = λ e h. omega (arith, joint-parent-row L T B j e h, all-long L T B j); child-row = λ e h. omega (arith, joint-child-row L T B j e h, all-long L T B j) }) (T .sites .position) byRow batch-node-row
         ∙ sym (lowest-10 joint (T .sites .position) byRow (length (B .muts .site)))
         )
-
-    -- ---- of columns that hold the same
-
-    module _ (t l r p c w : List ℕ) (et : t ≡ allTimes T B) (el : l ≡ joint .left) (er : r ≡ joint .right) (ep : p ≡ joint .parent) (ec : c ≡ joint .child) (ew : w ≡ rowsIn all (B .muts .node)) where
-      abbrev held : EdgeColumns
-      held = record { left = l; right = r; parent = p; child = c }
-
-      held-is : held ≡ joint
-      held-is = ap₂ (λ x y. record { left = x; right = y; parent = p; child = c }) el er ∙ ap₂ (λ x y. record { left = joint .left; right = joint .right; parent = x; child = y }) ep ec
-
-      pub held-unlined : Unlined t held (length (T .sites .position)) (B .muts .site) w
-      held-unlined = subst (λ x. Unlined x held (length (T .sites .position)) (B .muts .site) w) (sym et) (subst (λ x. Unlined (allTimes T B) x (length (T .sites .position)) (B .muts .site) w) (sym held-is) (subst (λ x. Unlined (allTimes T B) joint (length (T .sites .position)) (B .muts .site) x) (sym ew) joint-unlined))
-
-      pub held-26 : (x : ℕ) → x ≡ lowest (overtaken held (T .sites .position) (B .muts .site) w) (length (B .muts .site)) → x ≡ lowest (mutationAbove (edgesWith T B) (T .sites .position) (λ b. b) (B .muts)) (length (B .muts .site))
-      held-26 x e = e ∙ ap₂ (λ E v. lowest (overtaken E (T .sites .position) (B .muts .site) v) (length (B .muts .site))) held-is ew ∙ rule-26

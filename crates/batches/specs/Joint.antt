@@ -17,6 +17,15 @@ use Rattle.accepted.specs.Batches.{BatchEdgeRight}
 abbrev pub rowsIn : List ℕ → List ℕ → List ℕ
 rowsIn all names = map (λ b. indexOf b all) names
 
+-- the batch's edges by rows
+abbrev pub ownEdges : List ℕ → EdgeColumns → EdgeColumns
+ownEdges all F = record {
+  left = F .left;
+  right = F .right;
+  parent = rowsIn all (F .parent);
+  child = rowsIn all (F .child);
+}
+
 -- the base's edges, then the batch's
 abbrev pub jointEdges : List ℕ → EdgeColumns → EdgeColumns → EdgeColumns
 jointEdges all E F = record {

@@ -1,5 +1,4 @@
--- Rules 20 and 21 on lengths, and what rule 26 keeps and asks.
+-- Rules 20 and 21 on lengths, and what rule 26 asks.
 pub mod Lengths
-pub mod Marked
 pub mod Joint
 pub mod Asked

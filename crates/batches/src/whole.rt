@@ -111,6 +111,7 @@ pub fn rules_checked(
         return Checked::Refused(Refusal::BatchMutation(m));
     }
     let a = crate::above::first_batch_above(
+        len,
         basetime,
         basebirth,
         baseleft,

@@ -23,7 +23,7 @@ use Rattle.checker.specs.Found.{TablesSound}
 use Rattle.checker.proofs.Order.{refuse-done}
 use Rattle.checker.proofs.After.{Hands, hands, stops, goes-on, was-sound, after-refused, tables-after}
 use Rattle.checker.proofs.Sound.{tables-sound}
-use Rattle.checker.proofs.Rows.{apart, rising}
+use Rattle.checker.proofs.Rows.{apart, rising, rightwards}
 use Rattle.accepted.specs.Batches.{BatchShaped}
 use Rattle.batches.specs.Lengths.{batchRagged, batchLarge}
 use Rattle.batches.specs.Asked.{readBase, BatchAsked}
@@ -130,7 +130,7 @@ module _ (nodes edges mutations : ℕ) (B : BatchTables) where
     found-shape : s ≡ Sound → BatchShaped B × (accepted (refuseTable 21 (largeOf nodes edges mutations B) done) ≡ true)
     found-shape q = shaped-of B (refuseTable 21 (largeOf nodes edges mutations B) done) (ap accepted (shapes-by-lengths B (refuseTable 21 (largeOf nodes edges mutations B) done)) ∙ lengths-sound q)
 
-    pub batch-asked : s ≡ Sound → (T : Tables) → nodes ≡ length (T .nodes .time) → edges ≡ length (T .edges .left) → BaseAsked (T .nodes) (T .edges) → BatchAsked T B
+    pub batch-asked : s ≡ Sound → (T : Tables) → nodes ≡ length (T .nodes .time) → edges ≡ length (T .edges .left) → BaseAsked (T .nodes) (T .edges) (T .sites .position) → BatchAsked T B
     batch-asked q T en ee b =
         let f : _ = found-shape q in
         let g : _ = sized-of nodes edges mutations B done (f .1) in
@@ -141,6 +141,8 @@ module _ (nodes edges mutations : ℕ) (B : BatchTables) where
           shaped = f .0;
           few = omega (arith, g .0);
           edges = omega (arith, g .1);
+          sites = b .sites;
+          rightwards = b .rightwards;
           mutations = omega (arith, g .2);
         }
 
@@ -156,13 +158,15 @@ module _ (L : ℕ) (T : Tables) (t : Checked) (e : checkedOf t ≡ checkThen lim
   pub base-sound : t ≡ Sound → TablesSound limits L T
   base-sound q = tables-sound limits L T done (was-sound (checkThen limits L T) base-hands t e q) .0
 
-  pub base-asked : t ≡ Sound → BaseAsked (T .nodes) (T .edges)
+  pub base-asked : t ≡ Sound → BaseAsked (T .nodes) (T .edges) (T .sites .position)
   base-asked q =
       let s : _ = base-sound q in
       record {
         long = s .shaped .birth-long;
         once = apart (T .nodes .birth) (s .tree .once);
         rising = rising L (T .nodes .time) (T .edges) (s .shaped .edges) (s .tree .whole);
+        sites = s .sized .sites;
+        rightwards = rightwards L (T .sites .position) (s .sites .placed);
       }
 
   -- the rules read only nodes, edges and positions of the base

@@ -33,7 +33,7 @@ fn batch_checked(
     node: &[u32],
     derived: &[u8],
 ) -> Checked
-    requires { ⌜ BaseAsked (nodeTable (now basetime) (now basebirth)) (edgeTable (now baseleft) (now baseright) (now baseparent) (now basechild)) ⌝ }
+    requires { ⌜ BaseAsked (nodeTable (now basetime) (now basebirth)) (edgeTable (now baseleft) (now baseright) (now baseparent) (now basechild)) (now position) ⌝ }
     ensures { λ r. ⌜
         checkedOf r
         ≡ refuseTable 20 (batchRagged (length (now (time .entry))) (length (now (birth .entry))) (length (now (left .entry))) (length (now (right .entry))) (length (now (parent .entry))) (length (now (child .entry))) (length (now (site .entry))) (length (now (node .entry))) (length (now (derived .entry)))) (refuseTable 21 (batchLarge limits (length (now (basetime .entry))) (length (now (baseleft .entry))) basemutations (length (now (time .entry))) (length (now (left .entry))) (length (now (site .entry)))) (batchRules len (readBase (now (basetime .entry)) (now (basebirth .entry))

@@ -1,7 +1,8 @@
--- What the checks of a batch ask of the base: what 1, 4 and 5 find of nodes and edges.
+-- What the checks of a batch ask of the base: what 1, 2, 4, 5 and 8 find of nodes, edges and positions.
 use mathlib.Core.Path.{_≡_}
 use Prim.Native.Nat.{ℕ, _+_, _<_, _≤_}
 use mathlib.Core.Bool.{false}
+use mathlib.Core.List.{List}
 use lib.ListN.{length}
 use Rattle.meaning.specs.Words.{at}
 use Rattle.meaning.specs.Rows.{NodeColumns, EdgeColumns, Tables}
@@ -10,13 +11,16 @@ use Rattle.meaning.specs.Check.{edgeShared}
 use Rattle.meaning.specs.Join.{BatchTables}
 use Rattle.bridge.specs.Columns.{Apart}
 use Rattle.ancestry.specs.Column.{Rising}
+use Rattle.overtaking.specs.Overtaken.{Rightwards}
 use Rattle.batches.specs.Joint.{Joint}
 use Rattle.joint.specs.Sorting.{EdgeRoom}
 
-pub record BaseAsked (N : NodeColumns) (E : EdgeColumns) : Type 0 where
+pub record BaseAsked (N : NodeColumns) (E : EdgeColumns) (position : List ℕ) : Type 0 where
   pub long : length (N .birth) ≡ length (N .time)
   pub once : Apart (N .birth)
   pub rising : Rising (N .time) E
+  pub sites : length position ≤ limits .sites
+  pub rightwards : Rightwards position
 
 -- no two edges of a child share a position: what 7 and 24 find, with 5 and 23
 pub record Single (E : EdgeColumns) : Type 0 where

@@ -1,50 +1,51 @@
--- `lowest_overtaken` meets its contract: no mutation before the one looked at is above an earlier one.
+-- `lowest_overtaken` meets its contract: the working columns stand on the stack.
 use borrow.Author.Needs.{needs}
 use Rattle.batches.proofs.above.lowest_overtaken.Statement.{statement}
 use Rattle.batches.proofs.above.lowest_overtaken.Tie as tie
-use mathlib.Core.Path.{_≡_, sym, _∙_}
-use Prim.Native.Nat.{_≤_, _-_}
-use lib.ListN.{length}
-use Rattle.ancestry.specs.Overtaken.{overtaken}
-use Rattle.laws.specs.Counting.{Sought, sought-start, sought-hit, sought-miss, sought-none}
+use mathlib.Core.Path.{sym}
+use Rattle.order.specs.Tables.{front-long}
 
-abbrev Inv-loop : tie.InvT-loop
-Inv-loop time left right parent child position site node i₀ i = (i ≤ length site) × Sought (overtaken (record { left = left; right = right; parent = parent; child = child }) position site node) (length site) i
+array-borrow-prefix-by-child : tie.Need-array-borrow-prefix-by-child
+array-borrow-prefix-by-child c = search needs
 
-abbrev μ-loop : tie.MeasureT-loop
-μ-loop time left right parent child position site node i₀ i = length site - i
+slice-aggregate-lowest-by-site : tie.Need-slice-aggregate-lowest-by-site
+slice-aggregate-lowest-by-site c = front-long 4096 _ (c .before .before .before .before .before .before .before .before .before .pre .edges)
 
-loop-holds : tie.Need-loop-holds Inv-loop μ-loop
-loop-holds c = (search needs, sought-start _ _)
+array-borrow-prefix-row : tie.Need-array-borrow-prefix-row
+array-borrow-prefix-row c = search needs
 
-above-at-requires : tie.Need-above-at-requires Inv-loop μ-loop
-above-at-requires c κs = (c .before .before .before .before .before .before .before .before .before .before .pre, c .loop-test .taken)
+slice-aggregate-lowest-by-site-2 : tie.Need-slice-aggregate-lowest-by-site-2
+slice-aggregate-lowest-by-site-2 c = front-long 1024 _ (c .before .before .before .before .before .before .before .before .before .before .pre .mutations)
 
-returns : tie.Need-returns Inv-loop μ-loop
-returns c = sought-hit _ _ _ (c .before .before .loop-test .taken) (c .before .before .before .loop .inv .1) (sym (c .before .above-at .ensures) ∙ c .if1 .taken)
+array-borrow-prefix-rowsite : tie.Need-array-borrow-prefix-rowsite
+array-borrow-prefix-rowsite c = search needs
 
-add-i : tie.Need-add-i Inv-loop μ-loop
-add-i c = search needs
+slice-aggregate-lowest-by-site-3 : tie.Need-slice-aggregate-lowest-by-site-3
+slice-aggregate-lowest-by-site-3 c = front-long 1024 _ (c .before .before .before .before .before .before .before .before .before .before .before .pre .mutations)
 
-loop-less : tie.Need-loop-less Inv-loop μ-loop
-loop-less c = search needs
+array-borrow-prefix-rownode : tie.Need-array-borrow-prefix-rownode
+array-borrow-prefix-rownode c = search needs
 
-loop-again : tie.Need-loop-again Inv-loop μ-loop
-loop-again c = (search needs, sought-miss _ _ _ (c .before .before .loop-test .taken) (c .before .before .before .loop .inv .1) (sym (c .before .above-at .ensures) ∙ c .if1 .left))
+slice-aggregate-lowest-by-site-4 : tie.Need-slice-aggregate-lowest-by-site-4
+slice-aggregate-lowest-by-site-4 c = front-long 1024 _ (c .before .before .before .before .before .before .before .before .before .before .before .before .pre .mutations)
 
-returns-2 : tie.Need-returns-2 Inv-loop μ-loop
-returns-2 c = sought-none _ _ _ (c .before .loop .inv .0) (c .loop-test .left) (c .before .loop .inv .1)
+lowest-by-site-requires : tie.Need-lowest-by-site-requires
+lowest-by-site-requires c κs = (c .before .before .before .before .before .before .before .before .before .before .before .before .pre, sym (front-long 4096 _ (c .before .before .before .before .before .before .before .before .before .before .before .before .pre .edges)), sym (front-long 1024 _ (c .before .before .before .before .before .before .before .before .before .before .before .before .pre .mutations)), sym (front-long 1024 _ (c .before .before .before .before .before .before .before .before .before .before .before .before .pre .mutations)), sym (front-long 1024 _ (c .before .before .before .before .before .before .before .before .before .before .before .before .pre .mutations)))
+
+returns : tie.Need-returns
+returns c = c .before .before .before .before .lowest-by-site .ensures
 
 pub lowest-overtaken-spec : {M : Type 1} → statement M
 lowest-overtaken-spec =
     tie.close
     (tie.spec
-    Inv-loop
-    μ-loop
-    loop-holds
-    above-at-requires
-    returns
-    add-i
-    loop-less
-    loop-again
-    returns-2)
+    array-borrow-prefix-by-child
+    slice-aggregate-lowest-by-site
+    array-borrow-prefix-row
+    slice-aggregate-lowest-by-site-2
+    array-borrow-prefix-rowsite
+    slice-aggregate-lowest-by-site-3
+    array-borrow-prefix-rownode
+    slice-aggregate-lowest-by-site-4
+    lowest-by-site-requires
+    returns)

@@ -1,4 +1,4 @@
--- `rules_checked` meets its contract: each way out is one rule; 24 is asked of rows that 23 has passed, and 26 of rows that 22, 23 and 25 have.
+-- `rules_checked` meets its contract: each way out is one rule; 24 is asked of rows that 23 has passed, and 26 of rows that 22 to 25 have.
 use borrow.Author.Needs.{needs}
 use Rattle.batches.proofs.whole.rules_checked.Statement.{statement}
 use Rattle.batches.proofs.whole.rules_checked.Tie as tie
@@ -36,7 +36,7 @@ unfolding batchRules
 returns-4 c = sym (row-none _ _ _ _ _ (c .before .before .before .before .before .before .before .first-batch-birth .ensures) (c .before .before .before .before .before .before .if1 .left) ∙ row-none _ _ _ _ _ (c .before .before .before .before .before .first-batch-edge .ensures) (c .before .before .before .before .if2 .left) ∙ row-none _ _ _ _ _ (c .before .before .before .first-batch-shared .ensures) (c .before .before .if3 .left) ∙ row-found _ _ _ _ _ (c .before .first-batch-mutation .ensures) (c .if4 .taken))
 
 first-batch-above-requires : tie.Need-first-batch-above-requires
-first-batch-above-requires c κs = above-asked _ _ _ (c .before .before .before .before .before .before .before .before .before .before .before .before .before .before .before .before .before .before .before .before .before .before .before .before .pre) _ (c .before .before .before .before .before .before .before .first-batch-birth .ensures) (c .before .before .before .before .before .before .if1 .left) _ (c .before .before .before .before .before .first-batch-edge .ensures) (c .before .before .before .before .if2 .left) _ (c .before .first-batch-mutation .ensures) (c .if4 .left)
+first-batch-above-requires c κs = above-asked _ _ _ (c .before .before .before .before .before .before .before .before .before .before .before .before .before .before .before .before .before .before .before .before .before .before .before .before .pre) _ (c .before .before .before .before .before .before .before .first-batch-birth .ensures) (c .before .before .before .before .before .before .if1 .left) _ (c .before .before .before .before .before .first-batch-edge .ensures) (c .before .before .before .before .if2 .left) _ (c .before .before .before .first-batch-shared .ensures) (c .before .before .if3 .left) _ (c .before .first-batch-mutation .ensures) (c .if4 .left)
 
 returns-5 : tie.Need-returns-5
 returns-5 c = above-refused _ _ _ _ _ _ _ _ (c .before .before .before .before .before .before .before .before .before .first-batch-birth .ensures) (c .before .before .before .before .before .before .before .before .if1 .left) (c .before .before .before .before .before .before .before .first-batch-edge .ensures) (c .before .before .before .before .before .before .if2 .left) (c .before .before .before .before .before .first-batch-shared .ensures) (c .before .before .before .before .if3 .left) (c .before .before .before .first-batch-mutation .ensures) (c .before .before .if4 .left) (c .before .first-batch-above .ensures) (c .if5 .taken)
