@@ -10,9 +10,19 @@ ghost use lib.ListN.{length, getD, set};
 ghost use Rattle.mend.specs.Right.{none, W, live, stands, feeds, Lacks, Excess, Right, Shape, Grows};
 ghost use Rattle.mend.specs.Line.{parOf, Low, Stop, Gained, Lost};
 ghost use Rattle.mend.specs.Kept.{Mended, Heir};
+ghost use Rattle.mend.specs.Looks.{Led};
 
 // In a column of rows: no row.
 pub const NONE: u32 = 4294967295;
+
+// How often a look upwards calls itself before it hands back the row to go on from.
+const CALLS: u32 = 64;
+
+// What a look upwards comes to: the first live row or none, or the row to go on from when its calls are used up.
+enum Look {
+    Done(u32),
+    From(u32),
+}
 
 // u is a sample or has a live child.
 pub fn alive(sample: &[u8], count: &[u32], u: u32) -> bool
@@ -84,20 +94,45 @@ pub fn heir(time: &[u32], sample: &[u8], parent: &[u32], count: &[u32], sum: &[u
     low(time, sample, parent, count, sum, s)
 }
 
+// Looks at q, the parent, the parent's parent, and so on upwards for a live row. It calls itself; the number of older rows falls.
+fn look_up(
+    time: &[u32],
+    sample: &[u8],
+    parent: &[u32],
+    count: &[u32],
+    q: u32,
+    calls_left: u32,
+) -> Look
+    requires { ⌜ (length (now sample) ≡ length (now parent)) × (length (now count) ≡ length (now parent)) × (length (now parent) ≤ none) × Grows (now time) (now parent) × (q < length (now parent)) ⌝ }
+    ensures { λ r. ⌜ Led (now (time .entry)) (now (parent .entry)) (live (now (sample .entry)) (now (count .entry))) q r ⌝ }
+{
+    if alive(sample, count, q) {
+        return Look::Done(q);
+    }
+    let o = parent[q as usize];
+    if o == NONE {
+        return Look::Done(NONE);
+    }
+    if calls_left == 0 {
+        return Look::From(o);
+    }
+    look_up(time, sample, parent, count, o, calls_left - 1)
+}
+
 // The nearest live row at or above q: the row that stands nearest once a live child comes to hang below it.
-// It calls itself on the parent; the number of older nodes falls.
 fn nearest(time: &[u32], sample: &[u8], parent: &[u32], count: &[u32], q: u32) -> u32
     requires { ⌜ (length (now sample) ≡ length (now parent)) × (length (now count) ≡ length (now parent)) × (length (now parent) ≤ none) × Grows (now time) (now parent) × (q < length (now parent)) ⌝ }
     ensures { λ r. ⌜ Stop (now (parent .entry)) (live (now (sample .entry)) (now (count .entry))) r q ⌝ }
 {
-    if alive(sample, count, q) {
-        return q;
+    let mut v = q;
+    loop {
+        match look_up(time, sample, parent, count, v, CALLS) {
+            Look::Done(r) => return r,
+            Look::From(o) => {
+                v = o;
+            }
+        }
     }
-    let o = parent[q as usize];
-    if o == NONE {
-        return NONE;
-    }
-    nearest(time, sample, parent, count, o)
 }
 
 // The first live row at or above p, where p is a row or none.
