@@ -64,7 +64,9 @@ pub down-inside : (l : List ℕ) (m n : ℕ) → l ≡ rows (λ i. m - (i + 1)) 
 down-inside l m n e q = rw e (permuted-inside n (rows (λ i. i) m) (rows (λ i. m - (i + 1)) m) (down-permuted m) (own-inside m n (omega arith)))
 
 pub from-down : {lt : ℕ → ℕ → Bool} (l r : List ℕ) (m n : ℕ) → l ≡ rows (λ i. m - (i + 1)) m → m ≡ n → SortedFrom lt l r → SortedFrom lt (rows (λ i. i) n) r
-from-down l r m n e q s = rw q at (record { permuted = permuted-then (rows (λ i. i) m) (rows (λ i. m - (i + 1)) m) r (down-permuted m) (rw e at (s .permuted)); sorted = s .sorted })
+from-down {lt} l r m n e q s =
+    let t : SortedFrom lt (rows (λ i. i) m) r = record { permuted = permuted-then (rows (λ i. i) m) (rows (λ i. m - (i + 1)) m) r (down-permuted m) (rw e at (s .permuted)); sorted = s .sorted } in
+    rw q at t
 
 -- the loop that fills them in
 pub down-place : (l : List ℕ) (n i : ℕ) → i < length l → ((k : ℕ) → k < i → at l k ≡ n - (k + 1)) → (k : ℕ) → k < i + 1 → at (set l i (n - (i + 1))) k ≡ n - (k + 1)
