@@ -11,13 +11,10 @@ use borrow.Author.Tests.{eq-eqb, eqb-true}
 use Rattle.meaning.specs.Words.{and, at, anyBelow, lowest}
 use Rattle.meaning.specs.Rows.{EdgeColumns}
 use Rattle.meaning.specs.Answer.{put}
-use Rattle.meaning.specs.Check.{edgeShared}
 use Rattle.meaning.specs.Forest.{ancestor}
 use Rattle.laws.specs.Bools.{bool-ext, and-of, and-yes}
 use Rattle.laws.specs.Counting.{below-of, of-below}
 use Rattle.laws.specs.Members.{at-map}
-use Rattle.rules.specs.Asked.{EvenEdges}
-use Rattle.rules.specs.Lined.{Somewhere}
 use Rattle.bridge.specs.Columns.{lowest-same}
 use Rattle.bridge.specs.Parents.{parentRow}
 use Rattle.order.specs.Lex.{trichotomy}
@@ -130,16 +127,6 @@ pub ranked-inside : {l idx : List ℕ} (n : ℕ) → n ≡ length l → Ranked l
 ranked-inside n e r = record { row = λ p h. omega (arith, r .row p (omega (arith, r .long))) }
 
 module _ {len : ℕ} {time : List ℕ} {E : EdgeColumns} {position site node : List ℕ} (k : Unlined len time E position site node) where
-  -- what the edges by child ask
-  pub unlined-edges : {m : ℕ} → m ≡ length (E .left) → EvenEdges E × Somewhere E × (m ≡ length (E .left)) × (length (E .left) ≤ 4294967296) × ((i : ℕ) → i < length (E .left) → edgeShared E i ≡ false)
-  unlined-edges e = (
-    record { right-long = k .rising .even .right-long; parent-long = k .rising .even .parent-long; child-long = k .rising .even .child-long },
-    record { held = k .whole .held },
-    e,
-    omega (arith, k .edges),
-    k .apart,
-  )
-
   -- their sites and nodes stand in columns that are as long
   module _ {row heldsite heldnode : List ℕ} (oldsite oldnode : List ℕ) (r : Ranked site row) (ls : length oldsite ≡ length site) (es : heldsite ≡ put (map (at site) row) oldsite) (ln : length oldnode ≡ length site) (en : heldnode ≡ put (map (at node) row) oldnode) where
     sites-are : heldsite ≡ map (at site) row

@@ -35,7 +35,6 @@ fn lowest_by_site(
         ≡ lowest (overtaken
         (edgeTable (now (left .entry)) (now (right .entry)) (now (parent .entry)) (now (child .entry))) (now (position .entry)) (now (site .entry)) (now (node .entry))) (length (now (site .entry))) ⌝ }
 {
-    rules::shared::by_child(left, right, parent, child, by_child);
     order::ranks::rank(site, row);
     crate::columns::gather(site, row, rowsite);
     crate::columns::gather(node, row, rownode);
@@ -46,11 +45,11 @@ fn lowest_by_site(
         right,
         parent,
         child,
-        by_child,
         position,
         rowsite,
         rownode,
         row,
+        by_child,
     )
 }
 

@@ -14,7 +14,7 @@ use Rattle.meaning.specs.Forest.{ancestor}
 use Rattle.laws.specs.Bools.{clash, eq?, and-of, or-no, or-right, not-of, not-no, not-true}
 use Rattle.laws.specs.Counting.{below-hit, below-miss, below-of, below-none, of-below, lowest-none}
 use Rattle.bridge.specs.Parents.{parentRow}
-use Rattle.overtaking.specs.Overtaken.{over, overtaken, endsSite, somePair, Lined}
+use Rattle.overtaking.specs.Overtaken.{over, overtaken, overtakenRow, endsSite, somePair, Lined}
 
 -- ---- where a site ends
 
@@ -105,10 +105,16 @@ module _ (E : EdgeColumns) (position site node : List ℕ) where
       f j = and (eqb (at site j) s) (ancestor (parentRow E (at position s)) v (at node j))
 
   -- without two mutations at a site no row is above another
-  pub none-overtaken : (sites nodes : ℕ) → Lined sites nodes site node → somePair site ≡ false → length site ≡ lowest (overtaken E position site node) (length site)
-  unfolding overtaken
-  none-overtaken sites nodes ok h = sym (lowest-none (overtaken E position site node) (length site) free)
-    where
-      free : (i : ℕ) → i < length site → over E position site node (at site i) i (at node i) ≡ false
-      free zero l = over-none (at site 0) 0 (at node 0) (λ j k. absurd (omega arith))
-      free (suc i) l = over-none (at site (suc i)) (suc i) (at node (suc i)) (lower-before site sites nodes node ok i (all-end site h i (omega arith)) l)
+  module _ (sites nodes : ℕ) (ok : Lined sites nodes site node) (h : somePair site ≡ false) where
+    free : (i : ℕ) → i < length site → overtaken E position site node i ≡ false
+    unfolding overtaken
+    free zero l = over-none (at site 0) 0 (at node 0) (λ j k. absurd (omega arith))
+    free (suc i) l = over-none (at site (suc i)) (suc i) (at node (suc i)) (lower-before site sites nodes node ok i (all-end site h i (omega arith)) l)
+
+    pub none-overtaken : length site ≡ lowest (overtaken E position site node) (length site)
+    none-overtaken = sym (lowest-none (overtaken E position site node) (length site) free)
+
+    -- and so is no row that stands beside one
+    pub no-row-overtaken : (row : List ℕ) → length site ≡ lowest (overtakenRow E position site node row) (length site)
+    unfolding overtakenRow
+    no-row-overtaken row = sym (lowest-none (overtakenRow E position site node row) (length site) (λ k l. not-true _ (λ g. let r : _ = below-of (λ i. and (eqb (at row i) k) (overtaken E position site node i)) (length site) g in clash (and-of (eqb (at row (r .0)) k) (overtaken E position site node (r .0)) (r .2) .1) (free (r .0) (r .1)))))

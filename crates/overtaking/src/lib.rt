@@ -1,11 +1,12 @@
 // 01's rule 10 by rows, and 26 as 10: whether a mutation is above an earlier one of its site.
 ghost use mathlib.Core.Path.{_≡_};
-ghost use Prim.Native.Nat.{_≤_};
+ghost use mathlib.Core.Bool.{false};
+ghost use Prim.Native.Nat.{ℕ, _<_, _≤_};
 ghost use lib.ListN.{length};
 ghost use Rattle.meaning.specs.Words.{lowest};
 ghost use Rattle.meaning.specs.Rows.{edgeTable, mutationTable, edgesOf};
 ghost use Rattle.meaning.specs.Answer.{limits};
-ghost use Rattle.meaning.specs.Check.{mutationAbove};
+ghost use Rattle.meaning.specs.Check.{edgeShared, mutationAbove};
 ghost use Rattle.rules.specs.ByChild.{ByChild};
 ghost use Rattle.ancestry.specs.Column.{Rising};
 ghost use Rattle.ancestry.specs.Index.{Whole};
@@ -68,7 +69,7 @@ pub fn first_above(
 }
 
 // The same of mutations that stand in another order, by site, with their rows beside them: the lowest of those rows.
-pub fn least_row_above(
+fn least_by_child(
     len: u32,
     time: &[u32],
     left: &[u32],
@@ -112,5 +113,48 @@ pub fn least_row_above(
         &mut par,
         &mut until,
         &mut marks,
+    )
+}
+
+// The same of edges that are not by child yet; by_child is a working column. Without two mutations at one site the edges are left alone.
+pub fn least_row_above(
+    len: u32,
+    time: &[u32],
+    left: &[u32],
+    right: &[u32],
+    parent: &[u32],
+    child: &[u32],
+    position: &[u32],
+    site: &[u32],
+    node: &[u32],
+    row: &[u32],
+    by_child: &mut [u32],
+) -> usize
+    requires { ⌜
+        (length (now time) ≤ limits .nodes) × (length (now left) ≤ limits .edges) × (length (now position) ≤ limits .sites) × Rising (now time)
+        (edgeTable (now left) (now right) (now parent) (now child)) × Whole
+        (edgeTable (now left) (now right) (now parent) (now child)) len × ((i : ℕ) → i < length (now left) → edgeShared
+        (edgeTable (now left) (now right) (now parent) (now child)) i ≡ false) × Rightwards (now position) × Lined (length (now position)) (length (now time)) (now site) (now node) × (length (now row) ≡ length (now site)) × (length (now «by_child») ≡ length (now left)) ⌝ }
+    ensures { λ r. ⌜
+        r
+        ≡ lowest (overtakenRow
+        (edgeTable (now (left .entry)) (now (right .entry)) (now (parent .entry)) (now (child .entry))) (now (position .entry)) (now (site .entry)) (now (node .entry)) (now (row .entry))) (length (now (site .entry))) ⌝ }
+{
+    if !stamps::some_pair(site) {
+        return site.len();
+    }
+    rules::shared::by_child(left, right, parent, child, by_child);
+    least_by_child(
+        len,
+        time,
+        left,
+        right,
+        parent,
+        child,
+        by_child,
+        position,
+        site,
+        node,
+        row,
     )
 }
