@@ -1,32 +1,35 @@
--- What the allele call answers, from the row that was found.
+-- What the allele call answers, from the row of the birth number.
 use mathlib.Core.Path.{_≡_, sym, ap, _∙_}
-use mathlib.Core.Bool.{true}
+use mathlib.Core.Bool.{true, false}
 use mathlib.Core.List.{List}
-use Prim.Native.Nat.{ℕ, _<_}
+use Prim.Native.Nat.{ℕ, _<_, _≤_}
 use native.Mathlib.Omega.{arith}
 use lib.ListN.{length}
-use Rattle.meaning.specs.Words.{at, mem}
+use borrow.Author.Tests.{lt-ltb, le-ltb}
+use Rattle.meaning.specs.Words.{at, mem, indexOf}
 use Rattle.meaning.specs.Rows.{Tables, recordOf}
 use Rattle.meaning.specs.Answer.{Stated, answer, done}
 use Rattle.meaning.specs.Allele.{alleleAt}
-use Rattle.laws.specs.Members.{at-mem}
-use Rattle.alleles.specs.declared.Found.{Found}
-use Rattle.alleles.specs.declared.Found.the-variants.{At, Nothing}
-use Rattle.alleles.specs.Marks.{foundOf, rowOf}
+use Rattle.laws.specs.Members.{index-at}
+use Rattle.order.specs.Ranks.{index-mem}
 use Rattle.alleles.specs.Reading.{Readable}
 use Rattle.alleles.specs.Call.{readAllele, no-birth, reads}
-use Rattle.alleles.proofs.Finding.{row-at, row-none}
 
-module _ (L : ℕ) (T : Tables) (by : List ℕ) (ok : Readable L T by) (b : ℕ) (r : Found) (e : foundOf r ≡ rowOf (T .nodes .birth) b) where
-  -- the row that was found exists
-  pub row-exists : (u : ℕ) → r ≡ At u → u < length (T .nodes .time)
-  row-exists u q = omega (arith, row-at b (T .nodes .birth) u (sym e ∙ ap foundOf q) .0, ok .births-long)
+module _ (L : ℕ) (T : Tables) (b u : ℕ) (e : u ≡ indexOf b (T .nodes .birth)) where
+  -- the row exists
+  pub row-exists : (by : List ℕ) → Readable L T by → u < length (T .nodes .birth) → u < length (T .nodes .time)
+  row-exists by ok h = omega (arith, ok .births-long)
 
-  pub answer-state : (i u s : ℕ) → i < length (T .sites .position) → r ≡ At u → s ≡ alleleAt (recordOf L T) i (at (T .nodes .birth) u) → _≡_ {A = Stated} (record { answer = done; state = s }) (readAllele L T i b)
-  answer-state i u s h q f =
-      let a : _ = row-at b (T .nodes .birth) u (sym e ∙ ap foundOf q) in
-      let m : mem b (T .nodes .birth) ≡ true = rw (a .1) at (at-mem (T .nodes .birth) u (a .0)) in
-      ap (λ (s : ℕ). record { answer = done; state = s }) (f ∙ ap (alleleAt (recordOf L T) i) (a .1)) ∙ sym (reads L T i b h m)
+  named : u < length (T .nodes .birth) → mem b (T .nodes .birth) ≡ true
+  named h = sym (index-mem b (T .nodes .birth)) ∙ lt-ltb (indexOf b (T .nodes .birth)) (length (T .nodes .birth)) (omega arith)
 
-  pub answer-no-birth : (i : ℕ) → i < length (T .sites .position) → r ≡ Nothing → _≡_ {A = Stated} (record { answer = answer 42 0; state = 0 }) (readAllele L T i b)
-  answer-no-birth i h q = sym (no-birth L T i b h (row-none b (T .nodes .birth) (sym e ∙ ap foundOf q)))
+  unnamed : length (T .nodes .birth) ≤ u → mem b (T .nodes .birth) ≡ false
+  unnamed h = sym (index-mem b (T .nodes .birth)) ∙ le-ltb (indexOf b (T .nodes .birth)) (length (T .nodes .birth)) (omega arith)
+
+  pub answer-state : (i s : ℕ) → i < length (T .sites .position) → u < length (T .nodes .birth) → s ≡ alleleAt (recordOf L T) i (at (T .nodes .birth) u) → _≡_ {A = Stated} (record { answer = done; state = s }) (readAllele L T i b)
+  answer-state i s h l f =
+      let q : at (T .nodes .birth) u ≡ b = ap (at (T .nodes .birth)) e ∙ index-at b (T .nodes .birth) (named l) in
+      ap (λ (s : ℕ). record { answer = done; state = s }) (f ∙ ap (alleleAt (recordOf L T) i) q) ∙ sym (reads L T i b h (named l))
+
+  pub answer-no-birth : (i : ℕ) → i < length (T .sites .position) → length (T .nodes .birth) ≤ u → _≡_ {A = Stated} (record { answer = answer 42 0; state = 0 }) (readAllele L T i b)
+  answer-no-birth i h l = sym (no-birth L T i b h (unnamed l))

@@ -43,12 +43,16 @@ module _ (L : ℕ) (T : Tables) (c : Checked) (e : checkedOf c ≡ checkThen lim
   hand : Hands (checkThen limits L T)
   hand = hands (checkThen limits L T) (tables-after limits L T)
 
-  pub sound-readable : (lent : List ℕ) → Ordered c (T .edges) (take (length (T .edges .left)) lent) → c ≡ checked.Sound → Readable L T (take (length (T .edges .left)) lent)
-  sound-readable lent o q = readable L T (take (length (T .edges .left)) lent) (tables-sound limits L T done (was-sound (checkThen limits L T) hand c e q) .0) (o .order q)
+  module _ (lent births : List ℕ) (o : Ordered c (T .nodes .birth) (T .edges) (take (length (T .edges .left)) lent) (take (length (T .nodes .birth)) births)) (q : c ≡ checked.Sound) where
+    pub sound-readable : Readable L T (take (length (T .edges .left)) lent)
+    sound-readable = readable L T (take (length (T .edges .left)) lent) (tables-sound limits L T done (was-sound (checkThen limits L T) hand c e q) .0) (o .order q)
 
-  -- a column as long as the edges may be has room for the order
-  pub lent-room : (lent : List ℕ) → Ordered c (T .edges) (take (length (T .edges .left)) lent) → c ≡ checked.Sound → (n : ℕ) → limits .edges ≡ n → length lent ≡ n → length (T .edges .left) ≤ length lent
-  lent-room lent o q n m l = omega (arith, sound-readable lent o q .few-edges)
+    -- columns as long as the tables may be have room for the orders
+    pub edges-room : (n : ℕ) → n ≡ limits .edges → length lent ≡ n → length (T .edges .left) ≤ length lent
+    edges-room n m l = omega (arith, sound-readable .few-edges)
+
+    pub births-room : (n : ℕ) → n ≡ limits .nodes → length births ≡ n → length (T .nodes .birth) ≤ length births
+    births-room n m l = omega (arith, sound-readable .few, sound-readable .births-long)
 
   module _ (i b : ℕ) where
     -- the call's answer and state by the answer after the check

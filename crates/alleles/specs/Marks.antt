@@ -1,26 +1,13 @@
--- A row that is looked for, and the marks and last states of a site's mutations by node rows.
+-- The marks and last states of a site's mutations by node rows.
 use mathlib.Core.Path.{_≡_}
 use mathlib.Core.Bool.{Bool, true, false}
 use mathlib.Core.List.{List}
-use mathlib.Core.Option.{Option, none, some}
 use Prim.Native.Nat.{ℕ, _<_}
 use lib.Dec.{eqb}
 use lib.ListN.{length}
-use Rattle.meaning.specs.Words.{at, mem, indexOf, rows}
+use Rattle.meaning.specs.Words.{at, rows}
 use Rattle.meaning.specs.Rows.{MutationColumns, mutsOf}
 use Rattle.meaning.specs.Allele.{carries, lastState}
-use Rattle.alleles.specs.declared.Found.{Found}
-use Rattle.alleles.specs.declared.Found.the-variants.{At, Nothing}
-
--- the row that was found
-abbrev pub foundOf : Found → Option ℕ
-foundOf (At r) = some r
-foundOf Nothing = none
-
--- the row of the birth number b
-unfoldable pub rowOf : List ℕ → ℕ → Option ℕ
-unfolding mem indexOf
-rowOf birth b = elim (mem b birth) [ true ↦ some (indexOf b birth) | false ↦ none ]
 
 -- row v is marked
 unfoldable pub marked : List ℕ → ℕ → Bool

@@ -1,13 +1,14 @@
 // Reading one allele: the marks and last states of a site's mutations by node rows, and the state of the first marked row at or above a row.
 ghost use mathlib.Core.Path.{_≡_};
-ghost use Prim.Native.Nat.{_<_, _≤_};
+ghost use Prim.Native.Nat.{_<_};
 ghost use lib.ListN.{length, replicate, set};
 ghost use Rattle.meaning.specs.Words.{at, rows};
 ghost use Rattle.meaning.specs.Rows.{nodeTable, edgeTable, siteTable, mutationTable, tables, recordOf};
 ghost use Rattle.meaning.specs.Answer.{alleleOf, limits};
 ghost use Rattle.meaning.specs.Allele.{alleleAt, allele};
+ghost use Rattle.order.specs.Ranks.{Ranked};
 ghost use Rattle.alleles.specs.Call.{readAllele};
-ghost use Rattle.alleles.specs.Marks.{foundOf, rowOf, markAfter, stateAfter, Naming, marksOf, statesOf};
+ghost use Rattle.alleles.specs.Marks.{markAfter, stateAfter, Naming, marksOf, statesOf};
 ghost use Rattle.alleles.specs.Reading.{Readable};
 
 pub mod climb; // the first marked row at or above a row
@@ -15,12 +16,6 @@ pub mod climb; // the first marked row at or above a row
 use meaning::Allele;
 use meaning::Checked;
 use meaning::Refusal;
-
-// A node row that is looked for.
-pub enum Found {
-    At(u32),
-    Nothing,
-}
 
 // The first marked row at or above a row, or ParentColumn::NONE, and the end of the stretch in which the way to it is the same.
 pub struct Carrier {
@@ -31,21 +26,6 @@ pub struct Carrier {
 impl Carrier {
     // How often a climb calls itself before it hands back the row to go on from.
     const CALLS: u32 = 64;
-}
-
-// The row of the birth number b.
-pub fn row_of(birth: &[u32], b: u32) -> Found
-    requires { ⌜ length (now birth) ≤ 4294967295 ⌝ }
-    ensures { λ r. ⌜ foundOf r ≡ rowOf (now (birth .entry)) b ⌝ }
-{
-    let mut i = 0;
-    while i < birth.len() {
-        if birth[i] == b {
-            return Found::At(i as u32);
-        }
-        i += 1;
-    }
-    Found::Nothing
 }
 
 // Puts one value into each cell.
@@ -164,7 +144,7 @@ pub fn state_of(
     )
 }
 
-// The allele of the fish b at site row i, of tables that the check does not refuse.
+// The allele of the fish b at site row i, of tables that the check does not refuse, with the orders that it leaves.
 fn read_allele(
     len: u32,
     time: &[u32],
@@ -179,6 +159,7 @@ fn read_allele(
     node: &[u32],
     derived: &[u8],
     by_child: &[u32],
+    by_birth: &[u32],
     i: u32,
     b: u32,
 ) -> Allele
@@ -188,7 +169,7 @@ fn read_allele(
         (nodeTable (now time) (now birth))
         (edgeTable (now left) (now right) (now parent) (now child))
         (siteTable (now position) (now ancestral))
-        (mutationTable (now site) (now node) (now derived))) (now «by_child») ⌝ }
+        (mutationTable (now site) (now node) (now derived))) (now «by_child») × Ranked (now birth) (now «by_birth») ⌝ }
     ensures { λ r. ⌜
         alleleOf r
         ≡ readAllele len
@@ -201,29 +182,30 @@ fn read_allele(
     if position.len() <= i as usize {
         return Allele::Refused(Refusal::NoSite);
     }
-    match row_of(birth, b) {
-        Found::At(u) => Allele::State(state_of(
-            len,
-            time,
-            birth,
-            left,
-            right,
-            parent,
-            child,
-            position,
-            ancestral,
-            site,
-            node,
-            derived,
-            by_child,
-            i,
-            u,
-        )),
-        Found::Nothing => Allele::Refused(Refusal::NoBirth),
+    let u = order::ranks::row_of(birth, by_birth, b);
+    if birth.len() <= u {
+        return Allele::Refused(Refusal::NoBirth);
     }
+    Allele::State(state_of(
+        len,
+        time,
+        birth,
+        left,
+        right,
+        parent,
+        child,
+        position,
+        ancestral,
+        site,
+        node,
+        derived,
+        by_child,
+        i,
+        u as u32,
+    ))
 }
 
-// The check of the tables, which leaves the order of the edges by child in a lent column, and then the allele.
+// The check of the tables, which leaves the edges by child and the nodes by birth in lent columns, and then the allele.
 fn allele_lent(
     len: u32,
     time: &[u32],
@@ -238,10 +220,11 @@ fn allele_lent(
     node: &[u32],
     derived: &[u8],
     by_child: &mut [u32],
+    by_birth: &mut [u32],
     i: u32,
     b: u32,
 ) -> Allele
-    requires { ⌜ length (now «by_child») ≡ 4096 ⌝ }
+    requires { ⌜ (length (now «by_child») ≡ 4096) × (length (now «by_birth») ≡ 1024) ⌝ }
     ensures { λ r. ⌜
         alleleOf r
         ≡ allele limits len
@@ -252,6 +235,7 @@ fn allele_lent(
         (mutationTable (now (site .entry)) (now (node .entry)) (now (derived .entry)))) i b ⌝ }
 {
     let n = left.len();
+    let m = birth.len();
     match checker::check_lent(
         len,
         time,
@@ -266,6 +250,7 @@ fn allele_lent(
         node,
         derived,
         by_child,
+        by_birth,
     ) {
         Checked::Refused(r) => Allele::Refused(r),
         Checked::Sound => read_allele(
@@ -282,6 +267,7 @@ fn allele_lent(
             node,
             derived,
             &by_child[..n],
+            &by_birth[..m],
             i,
             b,
         ),
@@ -315,6 +301,7 @@ pub fn allele(
         (mutationTable (now (site .entry)) (now (node .entry)) (now (derived .entry)))) i b ⌝ }
 {
     let mut by_child = [0u32; meaning::EdgeTable::MOST];
+    let mut by_birth = [0u32; meaning::NodeTable::MOST];
     allele_lent(
         len,
         time,
@@ -329,6 +316,7 @@ pub fn allele(
         node,
         derived,
         &mut by_child,
+        &mut by_birth,
         i,
         b,
     )

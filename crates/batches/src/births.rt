@@ -4,6 +4,8 @@ ghost use Prim.Native.Nat.{_≤_};
 ghost use lib.ListN.{length};
 ghost use Rattle.meaning.specs.Words.{at, mem, lowest};
 ghost use Rattle.meaning.specs.Rows.{nodeTable};
+ghost use Rattle.meaning.specs.Answer.{limits};
+ghost use Rattle.meaning.specs.Check.{repeated};
 ghost use Rattle.meaning.specs.Join.{batchBirth, timeIn};
 ghost use Rattle.order.specs.Ranks.{Helps};
 use meaning::NodeTable;
@@ -32,13 +34,23 @@ fn first_in_base(base: &[u32], l: &[u32], idx: &mut [u32]) -> usize
     first_known(base, &idx[..k], l)
 }
 
+// The lowest row of l whose number an earlier row has; idx is a working column.
+fn first_twice(l: &[u32], idx: &mut [u32]) -> usize
+    requires { ⌜ (length (now l) ≤ length (now idx)) × (length (now idx) ≤ 4096) ⌝ }
+    ensures { λ r. ⌜ r ≡ lowest (repeated (now (l .entry))) (length (now (l .entry))) ⌝ }
+{
+    let n = l.len();
+    rules::columns::first_repeated(l, &mut idx[..n])
+}
+
 // 22: the lowest row whose birth number is in the base or earlier in the batch.
 pub fn first_batch_birth(base: &[u32], birth: &[u32]) -> usize
+    requires { ⌜ length (now birth) ≤ limits .nodes ⌝ }
     ensures { λ r. ⌜ r ≡ lowest (batchBirth (now (base .entry)) (now (birth .entry))) (length (now (birth .entry))) ⌝ }
 {
     let mut idx = [0u32; NodeTable::MOST];
     let k = first_in_base(base, birth, &mut idx);
-    let t = rules::columns::first_repeated(birth);
+    let t = first_twice(birth, &mut idx);
     if k < t {
         return k;
     }

@@ -82,7 +82,16 @@ module _ (m : Limits) (L : ℕ) (T : Tables) (s : Checked) (e : checkedOf s ≡ 
   unfolding checkThen
   rules-last q t f = f ∙ sym (lengths-go-on m T s e q (rules L T done))
 
--- ---- 1 to 12: 1 and 2 of tables 1 to 4, 2 of the samples, then 3 to 10, then 11 and 12
+-- ---- 3 to 12: 3 to 10, then 11 and 12
+
+module _ (L : ℕ) (T : Tables) (S : List ℕ) (t : Checked) (f : checkedOf t ≡ rules L T done) where
+  pub rules-refused : (r : Refusal) → t ≡ Refused r → checkedOf t ≡ rules L T (sampleRules (T .nodes .birth) S done)
+  rules-refused r k = stops (rules L T) (hands (rules L T) (rules-after L T)) t f r k (sampleRules (T .nodes .birth) S done)
+
+  pub samples-last : t ≡ Sound → (u : Checked) → checkedOf u ≡ sampleRules (T .nodes .birth) S done → checkedOf u ≡ rules L T (sampleRules (T .nodes .birth) S done)
+  samples-last k u g = g ∙ sym (goes-on (rules L T) (hands (rules L T) (rules-after L T)) t f k (sampleRules (T .nodes .birth) S done))
+
+-- ---- 1 to 12: 1 and 2 of tables 1 to 4, 2 of the samples, then 3 to 12
 
 module _ (m : Limits) (L : ℕ) (T : Tables) (S : List ℕ) (s : Checked) (e : checkedOf s ≡ tableAnswer m T) where
   -- 3 to 12
@@ -104,12 +113,5 @@ module _ (m : Limits) (L : ℕ) (T : Tables) (S : List ℕ) (s : Checked) (e : c
     pub samples-many : m .samples < length S → answer 2 5 ≡ check m L T S
     samples-many l = sym (past-lengths ∙ refuse-yes 2 5 sampled (lt-ltb (m .samples) (length S) l))
 
-    module _ (l : length S ≤ m .samples) (t : Checked) (f : checkedOf t ≡ rules L T done) where
-      past-counts : check m L T S ≡ sampled
-      past-counts = past-lengths ∙ refuse-no 2 5 sampled (le-ltb (m .samples) (length S) l)
-
-      pub rules-refused : (r : Refusal) → t ≡ Refused r → checkedOf t ≡ check m L T S
-      rules-refused r k = stops (rules L T) (hands (rules L T) (rules-after L T)) t f r k (sampleRules (T .nodes .birth) S done) ∙ sym past-counts
-
-      pub samples-last : t ≡ Sound → (u : Checked) → checkedOf u ≡ sampleRules (T .nodes .birth) S done → checkedOf u ≡ check m L T S
-      samples-last k u g = g ∙ sym (past-counts ∙ goes-on (rules L T) (hands (rules L T) (rules-after L T)) t f k (sampleRules (T .nodes .birth) S done))
+    pub all-last : length S ≤ m .samples → (u : Checked) → checkedOf u ≡ rules L T (sampleRules (T .nodes .birth) S done) → checkedOf u ≡ check m L T S
+    all-last l u g = g ∙ sym (past-lengths ∙ refuse-no 2 5 sampled (le-ltb (m .samples) (length S) l))

@@ -10,6 +10,7 @@ use Rattle.meaning.specs.Answer.{Limits}
 use Rattle.meaning.specs.Check.{repeated, edgeBroken, edgeUnordered, edgeShared, siteBroken, mutationBroken, mutationAbove, sampleUnknown, lengthBroken}
 use Rattle.meaning.specs.declared.Checked.{Checked}
 use Rattle.meaning.specs.declared.Checked.the-variants.{Sound}
+use Rattle.order.specs.Ranks.{Ranked}
 use Rattle.rules.specs.Asked.{EvenEdges}
 use Rattle.rules.specs.ByChild.{ByChild}
 
@@ -54,6 +55,7 @@ pub record SamplesSound (birth S : List ℕ) : Type 0 where
   pub known : (i : ℕ) → i < length S → sampleUnknown birth S i ≡ false
   pub once : (i : ℕ) → i < length S → repeated S i ≡ false
 
--- the edges by child, which rule 7 leaves where the answer r is no refusal
-pub record Ordered (r : Checked) (E : EdgeColumns) (by : List ℕ) : Type 0 where
-  pub order : r ≡ Sound → ByChild E by
+-- what rules 7 and 4 leave where the answer r is no refusal: the edges by child, and the nodes by birth
+pub record Ordered (r : Checked) (birth : List ℕ) (E : EdgeColumns) (by-child by-birth : List ℕ) : Type 0 where
+  pub order : r ≡ Sound → ByChild E by-child
+  pub births : r ≡ Sound → Ranked birth by-birth

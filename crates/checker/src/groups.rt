@@ -4,13 +4,16 @@ ghost use Prim.Native.Nat.{_≤_};
 ghost use lib.ListN.{length};
 ghost use Rattle.meaning.specs.Rows.{nodeTable, edgeTable, siteTable, mutationTable, tables};
 ghost use Rattle.meaning.specs.Answer.{done, limits, checkedOf};
-ghost use Rattle.meaning.specs.Check.{treeRules, siteRules, sampleRules};
+ghost use Rattle.meaning.specs.Words.{lowest};
+ghost use Rattle.meaning.specs.Check.{treeRules, siteRules, sampleRules, repeated};
+ghost use Rattle.order.specs.Ranks.{Ranked};
 ghost use Rattle.rules.specs.Asked.{EvenEdges};
 ghost use Rattle.rules.specs.ByChild.{ByChild};
 ghost use Rattle.checker.specs.Found.{Shaped, Sized, TreeSound, Ordered};
 ghost use Rattle.rules.specs.Lengths.{raggedTable, largeTable, refuseTable};
 use meaning::Checked;
 use meaning::Refusal;
+use meaning::SampleTable;
 
 // 1 and 2 on lengths alone.
 pub fn lengths_checked(
@@ -51,7 +54,7 @@ pub fn lengths_checked(
     Checked::Sound
 }
 
-// 4 to 7; by_child is left with the edges by child.
+// 4 to 7; by_child is left with the edges by child, and by_birth with the nodes by their births.
 pub fn tree_checked(
     len: u32,
     time: &[u32],
@@ -61,19 +64,21 @@ pub fn tree_checked(
     parent: &[u32],
     child: &[u32],
     by_child: &mut [u32],
+    by_birth: &mut [u32],
 ) -> Checked
     requires { ⌜
         (length (now birth) ≡ length (now time)) × EvenEdges
         (edgeTable (now left) (now right) (now parent) (now child)) × (length (now «by_child»)
-        ≡ length (now left)) × (length (now left) ≤ limits .edges) ⌝ }
+        ≡ length (now left)) × (length (now left) ≤ limits .edges) × (length (now «by_birth»)
+        ≡ length (now birth)) × (length (now birth) ≤ limits .nodes) ⌝ }
     ensures { λ r. ⌜
         (checkedOf r
         ≡ treeRules len
         (nodeTable (now (time .entry)) (now (birth .entry)))
-        (edgeTable (now (left .entry)) (now (right .entry)) (now (parent .entry)) (now (child .entry))) done) × Ordered r
-        (edgeTable (now (left .entry)) (now (right .entry)) (now (parent .entry)) (now (child .entry))) (now («by_child» .exit)) ⌝ }
+        (edgeTable (now (left .entry)) (now (right .entry)) (now (parent .entry)) (now (child .entry))) done) × Ordered r (now (birth .entry))
+        (edgeTable (now (left .entry)) (now (right .entry)) (now (parent .entry)) (now (child .entry))) (now («by_child» .exit)) (now («by_birth» .exit)) ⌝ }
 {
-    let b = rules::columns::first_repeated(birth);
+    let b = rules::columns::first_repeated(birth, by_birth);
     if b < birth.len() {
         return Checked::Refused(Refusal::BirthRepeated(b));
     }
@@ -165,15 +170,26 @@ pub fn sites_checked(
     Checked::Sound
 }
 
-// 11 and 12.
-pub fn samples_checked(birth: &[u32], samples: &[u32]) -> Checked
+// 12: the lowest sample that an earlier one repeats, with a column of its own for the samples in order.
+fn first_twice(samples: &[u32]) -> usize
+    requires { ⌜ length (now samples) ≤ limits .samples ⌝ }
+    ensures { λ r. ⌜ r ≡ lowest (repeated (now (samples .entry))) (length (now (samples .entry))) ⌝ }
+{
+    let n = samples.len();
+    let mut by_number = [0u32; SampleTable::MOST];
+    rules::columns::first_repeated(samples, &mut by_number[..n])
+}
+
+// 11 and 12, with the nodes by their births.
+pub fn samples_checked(birth: &[u32], by_birth: &[u32], samples: &[u32]) -> Checked
+    requires { ⌜ Ranked (now birth) (now «by_birth») × (length (now samples) ≤ limits .samples) ⌝ }
     ensures { λ r. ⌜ checkedOf r ≡ sampleRules (now (birth .entry)) (now (samples .entry)) done ⌝ }
 {
-    let u = rules::columns::first_unknown(birth, samples);
+    let u = rules::columns::first_unknown(birth, by_birth, samples);
     if u < samples.len() {
         return Checked::Refused(Refusal::SampleUnknown(u));
     }
-    let s = rules::columns::first_repeated(samples);
+    let s = first_twice(samples);
     if s < samples.len() {
         return Checked::Refused(Refusal::SampleRepeated(s));
     }

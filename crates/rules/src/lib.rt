@@ -7,4 +7,3 @@ pub mod mutations; // rule 9
 pub mod lengths; // rules 1 to 3: numbers alone
 mod places; // a step among rows lined up by a sort
 mod repeated; // rules 4 and 12, in n log n steps
-mod known; // rule 11, in n log n steps

@@ -1,5 +1,5 @@
 // Rules 4 and 12: the lowest row whose number an earlier row has, in n log n steps.
-// The rows are sorted by their numbers once; then the bound below which some row is repeated is found by halving.
+// The rows stand by their numbers; the bound below which some row is repeated is found by halving.
 ghost use mathlib.Core.Path.{_≡_};
 ghost use Prim.Native.Nat.{_<_, _≤_};
 ghost use lib.ListN.{length};
@@ -35,7 +35,7 @@ fn some_repeated(l: &[u32], idx: &[u32], k: usize) -> bool
 }
 
 // The lowest repeated row, by halving the range in which it lies.
-fn first_lined(l: &[u32], idx: &[u32]) -> usize
+pub fn first_lined(l: &[u32], idx: &[u32]) -> usize
     requires { ⌜ Lined (twins (now l)) (length (now l)) (now idx) ⌝ }
     ensures { λ r. ⌜ r ≡ lowest (repeated (now (l .entry))) (length (now (l .entry))) ⌝ }
 {
@@ -53,43 +53,4 @@ fn first_lined(l: &[u32], idx: &[u32]) -> usize
         }
     }
     low
-}
-
-// The lowest repeated row; idx is a working column with a cell for each row.
-pub fn first_by_order(l: &[u32], idx: &mut [u32]) -> usize
-    requires { ⌜ (length (now idx) ≡ length (now l)) × (length (now l) ≤ 4096) ⌝ }
-    ensures { λ r. ⌜ r ≡ lowest (repeated (now (l .entry))) (length (now (l .entry))) ⌝ }
-{
-    order::ranks::rank(l, idx);
-    first_lined(l, idx)
-}
-
-// Whether an earlier row has the number of row i.
-fn repeated_at(l: &[u32], i: usize) -> bool
-    requires { ⌜ i < length (now l) ⌝ }
-    ensures { λ r. ⌜ r ≡ repeated (now (l .entry)) i ⌝ }
-{
-    let b = l[i];
-    let mut j = i;
-    while 0 < j {
-        j -= 1;
-        if l[j] == b {
-            return true;
-        }
-    }
-    false
-}
-
-// The lowest repeated row by comparing rows in pairs, for columns longer than any table's, which no check lets through.
-pub fn first_by_pairs(l: &[u32]) -> usize
-    ensures { λ r. ⌜ r ≡ lowest (repeated (now (l .entry))) (length (now (l .entry))) ⌝ }
-{
-    let mut i = 0;
-    while i < l.len() {
-        if repeated_at(l, i) {
-            return i;
-        }
-        i += 1;
-    }
-    l.len()
 }

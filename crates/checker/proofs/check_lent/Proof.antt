@@ -15,16 +15,19 @@ enum-told-2 : tie.Need-enum-told-2
 enum-told-2 c = search needs
 
 rules-checked-requires : tie.Need-rules-checked-requires
-rules-checked-requires c κs = let f : _ = lengths-found _ _ _ (c .before .before .before .lengths-checked .ensures) (c .before .enum-told2 .given .1) in (f .0, f .1, c .before .before .before .before .before .before .before .before .before .before .before .before .before .before .before .before .pre)
+rules-checked-requires c κs = let f : _ = lengths-found _ _ _ (c .before .before .before .before .lengths-checked .ensures) (c .before .before .enum-told2 .given .1) in (f .0, f .1, c .before .before .before .before .before .before .before .before .before .before .before .before .before .before .before .before .before .before .pre .0, c .before .before .before .before .before .before .before .before .before .before .before .before .before .before .before .before .before .before .pre .1)
 
 returns : tie.Need-returns
-returns c = (table-refused _ _ _ _ (c .before .before .lengths-checked .ensures) _ (c .enum-told .given .1), refusal-hands _ _ _ _ (c .enum-told .given .1))
+returns c = (table-refused _ _ _ _ (c .before .before .lengths-checked .ensures) _ (c .enum-told .given .1), refusal-hands _ _ _ _ _ _ (c .enum-told .given .1))
 
 same-length : tie.Need-same-length
 same-length c = search needs
 
+same-length-2 : tie.Need-same-length-2
+same-length-2 c = search needs
+
 returns-2 : tie.Need-returns-2
-returns-2 c = (rules-last _ _ _ _ (c .before .before .before .before .before .before .lengths-checked .ensures) (c .before .before .before .before .enum-told2 .given .1) (c .before .before .rules-checked .result) (c .before .before .rules-checked .ensures .0), c .before .before .rules-checked .ensures .1)
+returns-2 c = (rules-last _ _ _ _ (c .before .before .before .before .before .before .before .before .before .lengths-checked .ensures) (c .before .before .before .before .before .before .before .enum-told2 .given .1) (c .before .before .before .before .rules-checked .result) (c .before .before .before .before .rules-checked .ensures .0), c .before .before .before .before .rules-checked .ensures .1)
 
 pub check-lent-spec : {M : Type 1} → statement M
 check-lent-spec =
@@ -36,4 +39,5 @@ check-lent-spec =
     rules-checked-requires
     returns
     same-length
+    same-length-2
     returns-2)

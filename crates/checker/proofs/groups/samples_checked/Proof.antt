@@ -13,17 +13,23 @@ returns : tie.Need-returns
 unfolding sampleRules
 returns c = sym (row-found _ _ _ _ _ (c .before .first-unknown .ensures) (c .if1 .taken))
 
-first-repeated-requires : tie.Need-first-repeated-requires
-first-repeated-requires c κs = search needs
+first-twice-requires : tie.Need-first-twice-requires
+first-twice-requires c κs = search needs
 
 returns-2 : tie.Need-returns-2
 unfolding sampleRules
-returns-2 c = sym (row-none _ _ _ _ _ (c .before .before .before .first-unknown .ensures) (c .before .before .if1 .left) ∙ row-found _ _ _ _ _ (c .before .first-repeated .ensures) (c .if2 .taken))
+returns-2 c = sym (row-none _ _ _ _ _ (c .before .before .before .first-unknown .ensures) (c .before .before .if1 .left) ∙ row-found _ _ _ _ _ (c .before .first-twice .ensures) (c .if2 .taken))
 
 returns-3 : tie.Need-returns-3
 unfolding sampleRules
-returns-3 c = sym (row-none _ _ _ _ _ (c .before .before .before .first-unknown .ensures) (c .before .before .if1 .left) ∙ row-none _ _ _ _ _ (c .before .first-repeated .ensures) (c .if2 .left))
+returns-3 c = sym (row-none _ _ _ _ _ (c .before .before .before .first-unknown .ensures) (c .before .before .if1 .left) ∙ row-none _ _ _ _ _ (c .before .first-twice .ensures) (c .if2 .left))
 
 pub samples-checked-spec : {M : Type 1} → statement M
 samples-checked-spec =
-    tie.close (tie.spec first-unknown-requires returns first-repeated-requires returns-2 returns-3)
+    tie.close
+    (tie.spec
+    first-unknown-requires
+    returns
+    first-twice-requires
+    returns-2
+    returns-3)
