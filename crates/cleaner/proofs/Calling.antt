@@ -3,6 +3,7 @@ use mathlib.Core.Path.{_≡_, refl, sym, ap, _∙_}
 use mathlib.Core.Bool.{Bool, true, false}
 use mathlib.Core.List.{List}
 use Prim.Native.Nat.{ℕ, _<_, _≤_}
+use native.Mathlib.Omega.{arith}
 use lib.ListN.{length}
 use Rattle.meaning.specs.declared.Refusal.{Refusal}
 use Rattle.meaning.specs.declared.Checked.{Checked}
@@ -32,6 +33,11 @@ module _ (L : ℕ) (T : Tables) (S : List ℕ) (c : Checked) (e : checkedOf c �
   pub grounded : c ≡ checked.Sound → ((i : ℕ) → i < length (T .nodes .time) → at (T .nodes .time) i < Ages) → Ground limits L T S
   unfolding check
   grounded q y = let k : _ = check-tells limits L T S (was-sound (checkAllThen limits L T S) hand c found q) in record { sound = k .sound; listed = k .listed; young = y }
+
+  -- a column as long as the nodes may be has room for their order
+  pub births-room : c ≡ checked.Sound → (by : List ℕ) (n : ℕ) → n ≡ 1024 → length by ≡ n → length (T .nodes .birth) ≤ length by
+  unfolding check
+  births-room q by n m l = let k : _ = check-tells limits L T S (was-sound (checkAllThen limits L T S) hand c found q) in omega (arith, k .sound .size .nodes, k .sound .shape .births)
 
   module _ (out : Tables) (outMap : List ℕ) (cells : ℕ) where
     abbrev rest : Answer

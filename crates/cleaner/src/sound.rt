@@ -1,6 +1,6 @@
 // Cleaning of tables that the check passes, by working columns on the stack.
-// Arrays on the stack: 99,328 bytes in `clean_sound`, 2,048 in `work`, 32,768 in `trace`, 122,880 in `swept`; 257,024 at most
-// at once (`order_edges` has 49,152 after the trace is done).
+// Arrays on the stack: 20,480 bytes in `clean_within`, 99,328 in `clean_sound`, 2,048 in `work`, 32,768 in `trace`, 122,880 in
+// `swept`; 277,504 at most at once (`order_edges` has 49,152 after the trace is done).
 ghost use mathlib.Core.Path.{_≡_};
 ghost use mathlib.Core.List.{List};
 ghost use Prim.Native.Nat.{ℕ, _≤_};
@@ -9,6 +9,7 @@ ghost use Rattle.meaning.specs.Rows.{nodeTable, edgeTable, siteTable, mutationT
 ghost use Rattle.meaning.specs.Forest.{stands};
 ghost use Rattle.meaning.specs.Answer.{limits};
 ghost use Rattle.meaning.specs.Clean.{outcomeOf, cleaned, nodeMap};
+ghost use Rattle.order.specs.Ranks.{Ranked};
 ghost use Rattle.byrows.specs.Ground.{Ground};
 ghost use Rattle.cleaner.specs.Outcome.{afterCheck};
 ghost use Rattle.cleaner.specs.Tracing.{Passed};
@@ -53,11 +54,12 @@ fn work(
     places: &mut [u32],
     lows: &mut [u32],
     moved: &mut [u32],
+    by_birth: &[u32],
 ) -> Sizes
     requires { ⌜
         Passed len
         (nodeTable (now time) (now birth))
-        (edgeTable (now left) (now right) (now parent) (now child)) (now position) (now site) (now node) (now samples) × ((length (now kept) ≡ 1280) × (length (now fl) ≡ limits .edges) × (length (now fr) ≡ limits .edges) × (length (now fp) ≡ limits .edges) × (length (now fc) ≡ limits .edges) × (length (now order) ≡ limits .edges) × (length (now places) ≡ limits .nodes) × (length (now lows) ≡ limits .mutations) × (length (now moved) ≡ limits .mutations)) ⌝ }
+        (edgeTable (now left) (now right) (now parent) (now child)) (now position) (now site) (now node) (now samples) × ((length (now kept) ≡ 1280) × (length (now fl) ≡ limits .edges) × (length (now fr) ≡ limits .edges) × (length (now fp) ≡ limits .edges) × (length (now fc) ≡ limits .edges) × (length (now order) ≡ limits .edges) × (length (now places) ≡ limits .nodes) × (length (now lows) ≡ limits .mutations) × (length (now moved) ≡ limits .mutations)) × Ranked (now birth) (now «by_birth») ⌝ }
     ensures { λ r. ⌜
         ((A D : List ℕ) → Ground limits len (record {
           nodes =
@@ -111,6 +113,7 @@ fn work(
         fc,
         &mut stood,
         lows,
+        by_birth,
     );
     let nodes = rank::keep_rows(time, birth, &sample, &stood, samples.len(), kept, places);
     rank::finish_edges(time, birth, places, fl, fp, fc, edges, order);
@@ -122,7 +125,7 @@ fn work(
     }
 }
 
-// Cleaning of tables that the check passes.
+// Cleaning of tables that the check passes, with the nodes by birth as it leaves them.
 pub fn clean_sound(
     len: u32,
     time: &[u32],
@@ -150,6 +153,7 @@ pub fn clean_sound(
     out_derived: &mut [u8],
     out_map: &mut [u32],
     cells: usize,
+    by_birth: &[u32],
 ) -> Tabled
     requires { ⌜
         Ground limits len
@@ -157,7 +161,7 @@ pub fn clean_sound(
         (nodeTable (now time) (now birth))
         (edgeTable (now left) (now right) (now parent) (now child))
         (siteTable (now position) (now ancestral))
-        (mutationTable (now site) (now node) (now derived))) (now samples) ⌝ }
+        (mutationTable (now site) (now node) (now derived))) (now samples) × Ranked (now birth) (now «by_birth») ⌝ }
     ensures { λ r. ⌜
         outcomeOf r
         (tables
@@ -207,6 +211,7 @@ pub fn clean_sound(
         &mut places,
         &mut lows,
         &mut moved,
+        by_birth,
     );
     store::store(
         time,

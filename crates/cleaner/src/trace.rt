@@ -5,6 +5,7 @@ ghost use Prim.Native.Nat.{ℕ, _<_, _≤_};
 ghost use lib.ListN.{length, take};
 ghost use Rattle.meaning.specs.Rows.{nodeTable, edgeTable};
 ghost use Rattle.meaning.specs.Answer.{limits};
+ghost use Rattle.order.specs.Ranks.{Ranked};
 ghost use Rattle.byrows.specs.Rows.{sampleRows};
 ghost use Rattle.tree.specs.TreeAt.{Flags};
 ghost use Rattle.sweep.specs.Sweeping.{Done};
@@ -98,11 +99,12 @@ pub fn trace(
     fc: &mut [u32],
     stood: &mut [u8],
     lows: &mut [u32],
+    by_birth: &[u32],
 ) -> usize
     requires { ⌜
         Passed len
         (nodeTable (now time) (now birth))
-        (edgeTable (now left) (now right) (now parent) (now child)) (now position) (now site) (now node) (now samples) × Roomy (length (now time)) (length (now samples)) (length (now site)) (now kept) (now sample) (record { left = now fl; right = now fr; parent = now fp; child = now fc; stood = now stood; count = 0 }) (now lows) ⌝ }
+        (edgeTable (now left) (now right) (now parent) (now child)) (now position) (now site) (now node) (now samples) × Roomy (length (now time)) (length (now samples)) (length (now site)) (now kept) (now sample) (record { left = now fl; right = now fr; parent = now fp; child = now fc; stood = now stood; count = 0 }) (now lows) × Ranked (now birth) (now «by_birth») ⌝ }
     ensures { λ r. ⌜
         Traced len (length (now (birth .entry)))
         (edgeTable (now (left .entry)) (now (right .entry)) (now (parent .entry)) (now (child .entry))) (now (position .entry)) (now (site .entry)) (now (node .entry)) (sampleRows (now (birth .entry)) (now (samples .entry))) (now (kept .entry)) (now (kept .exit)) (now (sample .exit)) (record { left = now (fl .exit); right = now (fr .exit); parent = now (fp .exit); child = now (fc .exit); stood = take (length (now (birth .entry))) (now (stood .exit)); count = r }) (now (lows .entry)) (now (lows .exit)) ⌝ }
@@ -111,7 +113,7 @@ pub fn trace(
     let e = left.len();
     let mut bl = [0u32; EdgeTable::MOST];
     let mut br = [0u32; EdgeTable::MOST];
-    keeping::sample_rows(birth, samples, kept, &mut sample[..n]);
+    keeping::sample_rows(birth, by_birth, samples, kept, &mut sample[..n]);
     crate::rank::ranked_down(left, left, left, left, &mut bl[..e]);
     crate::rank::ranked(right, right, right, right, &mut br[..e]);
     swept(

@@ -11,11 +11,10 @@ ghost use Rattle.meaning.specs.Clean.{no-row, rowIn};
 ghost use Rattle.accepted.specs.Checked.{Apart};
 ghost use Rattle.order.specs.Order.{Inside};
 ghost use Rattle.order.specs.Counts.{bit};
-ghost use Rattle.order.specs.Ranks.{Helps};
+ghost use Rattle.order.specs.Ranks.{Ranked};
 ghost use Rattle.byrows.specs.Rows.{allRows, sampleRows};
 ghost use Rattle.keeping.specs.Others.{other, otherRows, OthersListed};
 ghost use Rattle.keeping.specs.Places.{placed};
-use meaning::NodeTable;
 
 // A row number as an index.
 fn wide(x: u32) -> usize
@@ -35,37 +34,25 @@ fn unmark(marks: &mut [u8])
     }
 }
 
-// The row of each sample in list order, and a mark on each of these rows; idx helps to find a birth.
-fn find_rows(birth: &[u32], idx: &[u32], samples: &[u32], srow: &mut [u32], sample: &mut [u8])
-    requires { ⌜ ((i : ℕ) → i < length (now samples) → mem (at (now samples) i) (now birth) ≡ true) × (length (now samples) ≤ length (now srow)) × (length (now birth) ≤ 4294967295) × (length (now sample) ≡ length (now birth)) × Helps (now birth) (now idx) ⌝ }
+// The row of each sample in list order, found among the births in order, and a mark on each of these rows.
+pub fn sample_rows(
+    birth: &[u32],
+    by_birth: &[u32],
+    samples: &[u32],
+    srow: &mut [u32],
+    sample: &mut [u8],
+)
+    requires { ⌜ ((i : ℕ) → i < length (now samples) → mem (at (now samples) i) (now birth) ≡ true) × (length (now samples) ≤ length (now srow)) × (length (now birth) ≤ 4294967295) × (length (now sample) ≡ length (now birth)) × Ranked (now birth) (now «by_birth») ⌝ }
     ensures { λ _. ⌜ (now (srow .exit) ≡ put (sampleRows (now (birth .entry)) (now (samples .entry))) (now (srow .entry))) × (now (sample .exit) ≡ rows (λ u. bit (mem u (sampleRows (now (birth .entry)) (now (samples .entry))))) (length (now (birth .entry)))) ⌝ }
 {
     unmark(sample);
     let mut i = 0;
     while i < samples.len() {
-        let r = order::ranks::row_of(birth, idx, samples[i]) as u32;
+        let r = order::ranks::row_of(birth, by_birth, samples[i]) as u32;
         srow[i] = r;
         sample[wide(r)] = 1;
         i += 1;
     }
-}
-
-// The same, with a working column.
-fn find_ranked(birth: &[u32], samples: &[u32], idx: &mut [u32], srow: &mut [u32], sample: &mut [u8])
-    requires { ⌜ ((i : ℕ) → i < length (now samples) → mem (at (now samples) i) (now birth) ≡ true) × (length (now samples) ≤ length (now srow)) × (length (now birth) ≤ 4294967295) × (length (now sample) ≡ length (now birth)) × (length (now idx) ≤ 4096) ⌝ }
-    ensures { λ _. ⌜ (now (srow .exit) ≡ put (sampleRows (now (birth .entry)) (now (samples .entry))) (now (srow .entry))) × (now (sample .exit) ≡ rows (λ u. bit (mem u (sampleRows (now (birth .entry)) (now (samples .entry))))) (length (now (birth .entry)))) ⌝ }
-{
-    let k = order::ranks::rank_front(birth, idx);
-    find_rows(birth, &idx[..k], samples, srow, sample);
-}
-
-// The row of each sample in list order, and a mark on each of these rows.
-pub fn sample_rows(birth: &[u32], samples: &[u32], srow: &mut [u32], sample: &mut [u8])
-    requires { ⌜ ((i : ℕ) → i < length (now samples) → mem (at (now samples) i) (now birth) ≡ true) × (length (now samples) ≤ length (now srow)) × (length (now birth) ≤ 4294967295) × (length (now sample) ≡ length (now birth)) ⌝ }
-    ensures { λ _. ⌜ (now (srow .exit) ≡ put (sampleRows (now (birth .entry)) (now (samples .entry))) (now (srow .entry))) × (now (sample .exit) ≡ rows (λ u. bit (mem u (sampleRows (now (birth .entry)) (now (samples .entry))))) (length (now (birth .entry)))) ⌝ }
-{
-    let mut idx = [0u32; NodeTable::MOST];
-    find_ranked(birth, samples, &mut idx, srow, sample);
 }
 
 // Whether row u stands somewhere and is no sample.

@@ -1,4 +1,4 @@
--- `keeping::find_rows` meets its contract: the rows of the samples passed stand at the front, and are marked.
+-- `keeping::sample_rows` meets its contract: the rows of the samples passed stand at the front, and are marked.
 use mathlib.Core.Path.{_≡_, refl, sym, ap, _∙_}
 use Prim.Native.Nat.{_<_, _≤_, _-_}
 use lib.ListN.{length, take, set, length-set}
@@ -10,14 +10,14 @@ use Rattle.keeping.proofs.Cells.{Marked, none-marked, front-more, marks
 use Rattle.laws.specs.Members.{index-below}
 use native.Mathlib.Omega.{arith}
 use borrow.Author.Needs.{needs}
-use Rattle.keeping.proofs.find_rows.Statement.{statement}
-use Rattle.keeping.proofs.find_rows.Tie as tie
+use Rattle.keeping.proofs.sample_rows.Statement.{statement}
+use Rattle.keeping.proofs.sample_rows.Tie as tie
 
 abbrev Inv-loop : tie.InvT-loop
-Inv-loop birth idx samples srow₀ sample₀ i₀ srow sample i = (i ≤ length samples) × (length srow ≡ length srow₀) × (length sample ≡ length sample₀) × (srow ≡ put (take i (sampleRows birth samples)) srow₀) × Marked sample (take i (sampleRows birth samples))
+Inv-loop birth by-birth samples srow₀ sample₀ i₀ srow sample i = (i ≤ length samples) × (length srow ≡ length srow₀) × (length sample ≡ length sample₀) × (srow ≡ put (take i (sampleRows birth samples)) srow₀) × Marked sample (take i (sampleRows birth samples))
 
 abbrev μ-loop : tie.MeasureT-loop
-μ-loop birth idx samples srow₀ sample₀ i₀ srow sample i = length samples - i
+μ-loop birth by-birth samples srow₀ sample₀ i₀ srow sample i = length samples - i
 
 unmark-requires : tie.Need-unmark-requires Inv-loop μ-loop
 unmark-requires c κs = search needs
@@ -32,7 +32,7 @@ shared-slice-read-row-of : tie.Need-shared-slice-read-row-of Inv-loop μ-loop
 shared-slice-read-row-of c = search needs
 
 row-of-requires : tie.Need-row-of-requires Inv-loop μ-loop
-row-of-requires c κs = c .before .before .before .before .before .before .before .before .before .before .before .before .pre .4
+row-of-requires c κs = record { ranked = λ e. c .before .before .before .before .before .before .before .before .before .before .before .before .pre .4 }
 
 cast-r : tie.Need-cast-r Inv-loop μ-loop
 cast-r c = omega (arith, c .row-of .ensures, c .before .before .before .before .before .before .before .before .before .before .before .before .before .pre .2, index-below (at (c .before .before .before .before .before .before .before .before .before .before .before .before .before .args .samples .now) (c .before .before .before .loop .i)) (c .before .before .before .before .before .before .before .before .before .before .before .before .before .args .birth .now) (c .before .before .before .before .before .before .before .before .before .before .before .before .before .pre .0 (c .before .before .before .loop .i) (c .before .before .loop-test .taken)))
@@ -78,8 +78,8 @@ returns c =
       marks-all (sampleRows (c .before .before .before .before .before .before .before .before .before .before .before .args .birth .now) (c .before .before .before .before .before .before .before .before .before .before .before .args .samples .now)) (c .before .loop .sample) (length (c .before .before .before .before .before .before .before .before .before .before .before .args .birth .now)) (c .before .loop .i) (omega (arith, c .before .before .before .before .unmark .kept .0, c .before .loop .inv .2, c .before .before .before .before .before .before .before .before .before .before .before .pre .3)) l (c .before .loop .inv .4),
     )
 
-pub find-rows-spec : {M : Type 1} → statement M
-find-rows-spec =
+pub sample-rows-spec : {M : Type 1} → statement M
+sample-rows-spec =
     tie.close
     (tie.spec
     Inv-loop
