@@ -7,6 +7,7 @@ ghost use Rattle.batches.specs.Asked.{Above, Unlined};
 ghost use mathlib.Core.List.{[], _++_};
 ghost use Rattle.meaning.specs.Rows.{edgeTable, edgesOf};
 ghost use Rattle.meaning.specs.Check.{mutationAbove};
+ghost use Rattle.order.specs.Ranks.{Helps};
 use meaning::EdgeTable;
 use meaning::MutationTable;
 use meaning::NodeTable;
@@ -94,11 +95,12 @@ fn lowest_overtaken(
     )
 }
 
-// 26: the lowest batch mutation that is above an earlier one of its site; the batch's edges alone decide, since all that is above a base node is in the base.
+// 26: the lowest batch mutation that is above an earlier one of its site; the batch's edges alone decide, since all that is above a base node is in the base. The columns baseidx and idx help to find a birth.
 pub fn first_batch_above(
     len: u32,
     basetime: &[u32],
     basebirth: &[u32],
+    baseidx: &[u32],
     baseleft: &[u32],
     baseright: &[u32],
     baseparent: &[u32],
@@ -106,6 +108,7 @@ pub fn first_batch_above(
     position: &[u32],
     time: &[u32],
     birth: &[u32],
+    idx: &[u32],
     left: &[u32],
     right: &[u32],
     parent: &[u32],
@@ -116,7 +119,7 @@ pub fn first_batch_above(
     requires { ⌜
         Above len (now basetime) (now basebirth)
         (edgeTable (now baseleft) (now baseright) (now baseparent) (now basechild)) (now position) (now time) (now birth)
-        (edgeTable (now left) (now right) (now parent) (now child)) (now site) (now node) ⌝ }
+        (edgeTable (now left) (now right) (now parent) (now child)) (now site) (now node) × Helps (now basebirth) (now baseidx) × Helps (now birth) (now idx) ⌝ }
     ensures { λ r. ⌜
         r
         ≡ lowest (mutationAbove (edgesOf (at (now (basebirth .entry)))
@@ -131,9 +134,9 @@ pub fn first_batch_above(
     let m = left.len();
     let k = node.len();
     crate::columns::append(basetime, time, &mut alltime);
-    crate::columns::rows_of(basebirth, birth, parent, &mut parentrow);
-    crate::columns::rows_of(basebirth, birth, child, &mut childrow);
-    crate::columns::rows_of(basebirth, birth, node, &mut noderow);
+    crate::columns::rows_of(basebirth, baseidx, birth, idx, parent, &mut parentrow);
+    crate::columns::rows_of(basebirth, baseidx, birth, idx, child, &mut childrow);
+    crate::columns::rows_of(basebirth, baseidx, birth, idx, node, &mut noderow);
     lowest_overtaken(
         len,
         &alltime[..n],

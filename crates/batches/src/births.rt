@@ -5,10 +5,8 @@ ghost use lib.ListN.{length};
 ghost use Rattle.meaning.specs.Words.{at, mem, lowest};
 ghost use Rattle.meaning.specs.Rows.{nodeTable};
 ghost use Rattle.meaning.specs.Answer.{limits};
-ghost use Rattle.meaning.specs.Check.{repeated};
 ghost use Rattle.meaning.specs.Join.{batchBirth, timeIn};
-ghost use Rattle.order.specs.Ranks.{Helps};
-use meaning::NodeTable;
+ghost use Rattle.order.specs.Ranks.{Ranked, Helps};
 
 // The lowest row of l whose number is in the base; idx helps to find it.
 fn first_known(base: &[u32], idx: &[u32], l: &[u32]) -> usize
@@ -25,32 +23,13 @@ fn first_known(base: &[u32], idx: &[u32], l: &[u32]) -> usize
     l.len()
 }
 
-// The lowest row of l whose number is in the base; idx is a working column.
-fn first_in_base(base: &[u32], l: &[u32], idx: &mut [u32]) -> usize
-    requires { ⌜ length (now idx) ≤ 4096 ⌝ }
-    ensures { λ r. ⌜ r ≡ lowest (λ i. mem (at (now (l .entry)) i) (now (base .entry))) (length (now (l .entry))) ⌝ }
+// 22: the lowest row whose birth number is in the base or earlier in the batch; baseidx helps to find the base's, and idx is left with the batch's rows by birth, for later rules.
+pub fn first_batch_birth(base: &[u32], baseidx: &[u32], birth: &[u32], idx: &mut [u32]) -> usize
+    requires { ⌜ Helps (now base) (now baseidx) × (length (now idx) ≡ length (now birth)) × (length (now birth) ≤ limits .nodes) ⌝ }
+    ensures { λ r. ⌜ (r ≡ lowest (batchBirth (now (base .entry)) (now (birth .entry))) (length (now (birth .entry)))) × Ranked (now (birth .entry)) (now (idx .exit)) ⌝ }
 {
-    let k = order::ranks::rank_front(base, idx);
-    first_known(base, &idx[..k], l)
-}
-
-// The lowest row of l whose number an earlier row has; idx is a working column.
-fn first_twice(l: &[u32], idx: &mut [u32]) -> usize
-    requires { ⌜ (length (now l) ≤ length (now idx)) × (length (now idx) ≤ 4096) ⌝ }
-    ensures { λ r. ⌜ r ≡ lowest (repeated (now (l .entry))) (length (now (l .entry))) ⌝ }
-{
-    let n = l.len();
-    rules::columns::first_repeated(l, &mut idx[..n])
-}
-
-// 22: the lowest row whose birth number is in the base or earlier in the batch.
-pub fn first_batch_birth(base: &[u32], birth: &[u32]) -> usize
-    requires { ⌜ length (now birth) ≤ limits .nodes ⌝ }
-    ensures { λ r. ⌜ r ≡ lowest (batchBirth (now (base .entry)) (now (birth .entry))) (length (now (birth .entry))) ⌝ }
-{
-    let mut idx = [0u32; NodeTable::MOST];
-    let k = first_in_base(base, birth, &mut idx);
-    let t = first_twice(birth, &mut idx);
+    let k = first_known(base, baseidx, birth);
+    let t = rules::columns::first_repeated(birth, idx);
     if k < t {
         return k;
     }

@@ -9,7 +9,6 @@ ghost use Rattle.meaning.specs.Answer.{put, limits};
 ghost use Rattle.order.specs.Order.{Inside};
 ghost use Rattle.order.specs.Ranks.{Helps};
 ghost use Rattle.batches.specs.Joint.{rowsIn, jointEdges, JointRoom, JointPut};
-use meaning::NodeTable;
 
 // Cell i of a column and a second one after it.
 fn joined_cell(a: &[u32], b: &[u32], i: usize) -> u32
@@ -92,7 +91,7 @@ fn row_cell(
 }
 
 // Puts a column of rows, and after it the rows of the births that names has, to the front of out; baseidx and idx help to find them.
-fn append_found(
+pub fn append_rows(
     rows: &[u32],
     base: &[u32],
     baseidx: &[u32],
@@ -110,34 +109,6 @@ fn append_found(
         out[i] = row_cell(rows, base, baseidx, birth, idx, names, i);
         i += 1;
     }
-}
-
-// The same; baseidx and idx are working columns.
-fn append_ranked(
-    rows: &[u32],
-    base: &[u32],
-    baseidx: &mut [u32],
-    birth: &[u32],
-    idx: &mut [u32],
-    names: &[u32],
-    out: &mut [u32],
-)
-    requires { ⌜ (length (now rows) + length (now names) ≤ length (now out)) × (length (now base) + length (now birth) ≤ limits .nodes) × (length (now baseidx) ≤ 4096) × (length (now idx) ≤ 4096) ⌝ }
-    ensures { λ _. ⌜ now (out .exit) ≡ put (now (rows .entry) ++ map (λ b. indexOf b (now (base .entry) ++ now (birth .entry))) (now (names .entry))) (now (out .entry)) ⌝ }
-{
-    let j = order::ranks::rank_front(base, baseidx);
-    let k = order::ranks::rank_front(birth, idx);
-    append_found(rows, base, &baseidx[..j], birth, &idx[..k], names, out);
-}
-
-// Puts a column of rows, and after it the rows of the births that names has, to the front of out.
-pub fn append_rows(rows: &[u32], base: &[u32], birth: &[u32], names: &[u32], out: &mut [u32])
-    requires { ⌜ (length (now rows) + length (now names) ≤ length (now out)) × (length (now base) + length (now birth) ≤ limits .nodes) ⌝ }
-    ensures { λ _. ⌜ now (out .exit) ≡ put (now (rows .entry) ++ map (λ b. indexOf b (now (base .entry) ++ now (birth .entry))) (now (names .entry))) (now (out .entry)) ⌝ }
-{
-    let mut baseidx = [0u32; NodeTable::MOST];
-    let mut idx = [0u32; NodeTable::MOST];
-    append_ranked(rows, base, &mut baseidx, birth, &mut idx, names, out);
 }
 
 // Puts the cells of src that idx names, in idx's order, to the front of out.
@@ -166,18 +137,27 @@ pub fn gather_bytes(src: &[u8], idx: &[u32], out: &mut [u8])
     }
 }
 
-// Puts the rows of the births that names has to the front of out.
-pub fn rows_of(base: &[u32], birth: &[u32], names: &[u32], out: &mut [u32])
-    requires { ⌜ (length (now names) ≤ length (now out)) × (length (now base) + length (now birth) ≤ limits .nodes) ⌝ }
+// Puts the rows of the births that names has to the front of out; baseidx and idx help to find them.
+pub fn rows_of(
+    base: &[u32],
+    baseidx: &[u32],
+    birth: &[u32],
+    idx: &[u32],
+    names: &[u32],
+    out: &mut [u32],
+)
+    requires { ⌜ (length (now names) ≤ length (now out)) × (length (now base) + length (now birth) ≤ limits .nodes) × Helps (now base) (now baseidx) × Helps (now birth) (now idx) ⌝ }
     ensures { λ _. ⌜ now (out .exit) ≡ put (rowsIn (now (base .entry) ++ now (birth .entry)) (now (names .entry))) (now (out .entry)) ⌝ }
 {
-    append_rows(&names[..0], base, birth, names, out);
+    append_rows(&names[..0], base, baseidx, birth, idx, names, out);
 }
 
-// Puts the base's edges and after them the batch's, by rows, to the front of four columns.
+// Puts the base's edges and after them the batch's, by rows, to the front of four columns; baseidx and idx help to find the rows.
 pub fn joint_columns(
     basebirth: &[u32],
+    baseidx: &[u32],
     birth: &[u32],
+    idx: &[u32],
     baseleft: &[u32],
     baseright: &[u32],
     baseparent: &[u32],
@@ -195,7 +175,7 @@ pub fn joint_columns(
         JointRoom (now basebirth) (now birth)
         (edgeTable (now baseleft) (now baseright) (now baseparent) (now basechild))
         (edgeTable (now left) (now right) (now parent) (now child))
-        (edgeTable (now outleft) (now outright) (now outparent) (now outchild)) ⌝ }
+        (edgeTable (now outleft) (now outright) (now outparent) (now outchild)) × Helps (now basebirth) (now baseidx) × Helps (now birth) (now idx) ⌝ }
     ensures { λ _. ⌜
         JointPut (jointEdges (now (basebirth .entry) ++ now (birth .entry))
         (edgeTable (now (baseleft .entry)) (now (baseright .entry)) (now (baseparent .entry)) (now (basechild .entry)))
@@ -205,6 +185,14 @@ pub fn joint_columns(
 {
     append(baseleft, left, outleft);
     append(baseright, right, outright);
-    append_rows(baseparent, basebirth, birth, parent, outparent);
-    append_rows(basechild, basebirth, birth, child, outchild);
+    append_rows(
+        baseparent,
+        basebirth,
+        baseidx,
+        birth,
+        idx,
+        parent,
+        outparent,
+    );
+    append_rows(basechild, basebirth, baseidx, birth, idx, child, outchild);
 }

@@ -12,7 +12,6 @@ ghost use Rattle.rules.specs.Asked.{EvenEdges};
 ghost use Rattle.rules.specs.Lined.{Somewhere};
 ghost use Rattle.order.specs.Ranks.{Helps};
 use meaning::EdgeTable;
-use meaning::NodeTable;
 
 // Whether the birth b is in neither column; baseidx and idx help to find it.
 fn nowhere(base: &[u32], baseidx: &[u32], birth: &[u32], idx: &[u32], b: u32) -> bool
@@ -68,8 +67,8 @@ fn batch_edge_at(
     p <= c
 }
 
-// The lowest such edge.
-fn first_edge(
+// 23: the lowest such edge.
+pub fn first_batch_edge(
     len: u32,
     basetime: &[u32],
     basebirth: &[u32],
@@ -113,84 +112,6 @@ fn first_edge(
         i += 1;
     }
     left.len()
-}
-
-// The same; baseidx and idx are working columns.
-fn first_ranked_edge(
-    len: u32,
-    basetime: &[u32],
-    basebirth: &[u32],
-    baseidx: &mut [u32],
-    time: &[u32],
-    birth: &[u32],
-    idx: &mut [u32],
-    left: &[u32],
-    right: &[u32],
-    parent: &[u32],
-    child: &[u32],
-) -> usize
-    requires { ⌜
-        (length (now basebirth) ≡ length (now basetime)) × (length (now birth) ≡ length (now time)) × EvenEdges
-        (edgeTable (now left) (now right) (now parent) (now child)) × (length (now baseidx) ≤ 4096) × (length (now idx) ≤ 4096) ⌝ }
-    ensures { λ r. ⌜
-        r
-        ≡ lowest (batchEdge len
-        (nodeTable (now (basetime .entry)) (now (basebirth .entry)))
-        (nodeTable (now (time .entry)) (now (birth .entry)))
-        (edgeTable (now (left .entry)) (now (right .entry)) (now (parent .entry)) (now (child .entry)))) (length (now (left .entry))) ⌝ }
-{
-    let j = order::ranks::rank_front(basebirth, baseidx);
-    let k = order::ranks::rank_front(birth, idx);
-    first_edge(
-        len,
-        basetime,
-        basebirth,
-        &baseidx[..j],
-        time,
-        birth,
-        &idx[..k],
-        left,
-        right,
-        parent,
-        child,
-    )
-}
-
-// 23: the lowest such edge.
-pub fn first_batch_edge(
-    len: u32,
-    basetime: &[u32],
-    basebirth: &[u32],
-    time: &[u32],
-    birth: &[u32],
-    left: &[u32],
-    right: &[u32],
-    parent: &[u32],
-    child: &[u32],
-) -> usize
-    requires { ⌜ (length (now basebirth) ≡ length (now basetime)) × (length (now birth) ≡ length (now time)) × EvenEdges (edgeTable (now left) (now right) (now parent) (now child)) ⌝ }
-    ensures { λ r. ⌜
-        r
-        ≡ lowest (batchEdge len
-        (nodeTable (now (basetime .entry)) (now (basebirth .entry)))
-        (nodeTable (now (time .entry)) (now (birth .entry)))
-        (edgeTable (now (left .entry)) (now (right .entry)) (now (parent .entry)) (now (child .entry)))) (length (now (left .entry))) ⌝ }
-{
-    let mut baseidx = [0u32; NodeTable::MOST];
-    let mut idx = [0u32; NodeTable::MOST];
-    first_ranked_edge(
-        len,
-        basetime,
-        basebirth,
-        &mut baseidx,
-        time,
-        birth,
-        &mut idx,
-        left,
-        right,
-        parent,
-        child,
-    )
 }
 
 // 24: the lowest edge that shares a position with an earlier edge of its child, by rule 7, whose order of the edges no later rule of a batch needs.

@@ -1,12 +1,11 @@
 // Rule 25: the mutations of a batch by birth number.
 ghost use mathlib.Core.Path.{_≡_};
-ghost use Prim.Native.Nat.{_<_, _≤_};
+ghost use Prim.Native.Nat.{_<_};
 ghost use lib.ListN.{length};
 ghost use Rattle.meaning.specs.Words.{lowest};
 ghost use Rattle.meaning.specs.Rows.{mutationTable};
 ghost use Rattle.meaning.specs.Join.{batchMutation};
 ghost use Rattle.order.specs.Ranks.{Helps};
-use meaning::NodeTable;
 
 // Whether batch mutation i names no site, or no batch node; idx helps to find the node.
 fn batch_mutation_at(
@@ -27,8 +26,8 @@ fn batch_mutation_at(
     !order::ranks::known(birth, idx, node[i])
 }
 
-// The lowest such mutation. There are sites so many.
-fn first_mutation(
+// 25: the lowest such mutation. There are sites so many.
+pub fn first_batch_mutation(
     sites: usize,
     birth: &[u32],
     idx: &[u32],
@@ -47,35 +46,4 @@ fn first_mutation(
         i += 1;
     }
     site.len()
-}
-
-// The same; idx is a working column.
-fn first_ranked_mutation(
-    sites: usize,
-    birth: &[u32],
-    idx: &mut [u32],
-    site: &[u32],
-    node: &[u32],
-    derived: &[u8],
-) -> usize
-    requires { ⌜ (length (now node) ≡ length (now site)) × (length (now idx) ≤ 4096) ⌝ }
-    ensures { λ r. ⌜ r ≡ lowest (batchMutation sites (now (birth .entry)) (mutationTable (now (site .entry)) (now (node .entry)) (now (derived .entry)))) (length (now (site .entry))) ⌝ }
-{
-    let k = order::ranks::rank_front(birth, idx);
-    first_mutation(sites, birth, &idx[..k], site, node, derived)
-}
-
-// 25: the lowest such mutation. There are sites so many.
-pub fn first_batch_mutation(
-    sites: usize,
-    birth: &[u32],
-    site: &[u32],
-    node: &[u32],
-    derived: &[u8],
-) -> usize
-    requires { ⌜ length (now node) ≡ length (now site) ⌝ }
-    ensures { λ r. ⌜ r ≡ lowest (batchMutation sites (now (birth .entry)) (mutationTable (now (site .entry)) (now (node .entry)) (now (derived .entry)))) (length (now (site .entry))) ⌝ }
-{
-    let mut idx = [0u32; NodeTable::MOST];
-    first_ranked_mutation(sites, birth, &mut idx, site, node, derived)
 }

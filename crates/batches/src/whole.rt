@@ -1,10 +1,12 @@
 // The rules 20 to 26 in their order.
 ghost use mathlib.Core.Path.{_≡_};
 ghost use mathlib.Core.List.{[]};
+ghost use lib.ListN.{length};
 ghost use Rattle.meaning.specs.Rows.{nodeTable, edgeTable, mutationTable};
 ghost use Rattle.meaning.specs.Answer.{done, limits, checkedOf};
 ghost use Rattle.meaning.specs.Join.{batchTables, batchRules};
 ghost use Rattle.rules.specs.Lengths.{refuseTable};
+ghost use Rattle.order.specs.Ranks.{Ranked};
 ghost use Rattle.batches.specs.Lengths.{batchRagged, batchLarge};
 ghost use Rattle.batches.specs.Asked.{readBase, BatchAsked};
 use meaning::Checked;
@@ -48,11 +50,12 @@ pub fn lengths_checked(
     Checked::Sound
 }
 
-// 22 to 26, of a batch that is not ragged, over a base that is sound.
+// 22 to 26, of a batch that is not ragged, over a base that is sound, with its nodes by birth; by_birth is left with the batch's nodes by birth.
 pub fn rules_checked(
     len: u32,
     basetime: &[u32],
     basebirth: &[u32],
+    base_by_birth: &[u32],
     baseleft: &[u32],
     baseright: &[u32],
     baseparent: &[u32],
@@ -60,6 +63,7 @@ pub fn rules_checked(
     position: &[u32],
     time: &[u32],
     birth: &[u32],
+    by_birth: &mut [u32],
     left: &[u32],
     right: &[u32],
     parent: &[u32],
@@ -74,17 +78,17 @@ pub fn rules_checked(
         (batchTables
         (nodeTable (now time) (now birth))
         (edgeTable (now left) (now right) (now parent) (now child))
-        (mutationTable (now site) (now node) (now derived))) ⌝ }
+        (mutationTable (now site) (now node) (now derived))) × Ranked (now basebirth) (now «base_by_birth») × (length (now «by_birth») ≡ length (now birth)) ⌝ }
     ensures { λ r. ⌜
-        checkedOf r
+        (checkedOf r
         ≡ batchRules len (readBase (now (basetime .entry)) (now (basebirth .entry))
         (edgeTable (now (baseleft .entry)) (now (baseright .entry)) (now (baseparent .entry)) (now (basechild .entry))) (now (position .entry)))
         (batchTables
         (nodeTable (now (time .entry)) (now (birth .entry)))
         (edgeTable (now (left .entry)) (now (right .entry)) (now (parent .entry)) (now (child .entry)))
-        (mutationTable (now (site .entry)) (now (node .entry)) (now (derived .entry)))) done ⌝ }
+        (mutationTable (now (site .entry)) (now (node .entry)) (now (derived .entry)))) done) × Ranked (now (birth .entry)) (now («by_birth» .exit)) ⌝ }
 {
-    let b = crate::births::first_batch_birth(basebirth, birth);
+    let b = crate::births::first_batch_birth(basebirth, base_by_birth, birth, by_birth);
     if b < birth.len() {
         return Checked::Refused(Refusal::BatchBirth(b));
     }
@@ -92,8 +96,10 @@ pub fn rules_checked(
         len,
         basetime,
         basebirth,
+        base_by_birth,
         time,
         birth,
+        by_birth,
         left,
         right,
         parent,
@@ -106,7 +112,14 @@ pub fn rules_checked(
     if s < left.len() {
         return Checked::Refused(Refusal::BatchShared(s));
     }
-    let m = crate::mutations::first_batch_mutation(position.len(), birth, site, node, derived);
+    let m = crate::mutations::first_batch_mutation(
+        position.len(),
+        birth,
+        by_birth,
+        site,
+        node,
+        derived,
+    );
     if m < site.len() {
         return Checked::Refused(Refusal::BatchMutation(m));
     }
@@ -114,6 +127,7 @@ pub fn rules_checked(
         len,
         basetime,
         basebirth,
+        base_by_birth,
         baseleft,
         baseright,
         baseparent,
@@ -121,6 +135,7 @@ pub fn rules_checked(
         position,
         time,
         birth,
+        by_birth,
         left,
         right,
         parent,

@@ -1,4 +1,5 @@
--- What a join asks and leaves, and its room.
+-- What a join asks and leaves, the orders of births, and its room.
 pub mod Joinable
 pub mod Room
 pub mod Outcome
+pub mod Orders

@@ -1,22 +1,70 @@
 // 1 to 10 of the base, then 20 to 26 of the batch.
 ghost use mathlib.Core.Path.{_≡_};
-ghost use lib.ListN.{length};
+ghost use lib.ListN.{length, take};
 ghost use Rattle.meaning.specs.Rows.{nodeTable, edgeTable, siteTable, mutationTable, tables};
 ghost use Rattle.meaning.specs.Answer.{done, limits, checkedOf};
 ghost use Rattle.meaning.specs.Check.{checkThen};
 ghost use Rattle.meaning.specs.Join.{batchTables, batchShapes, batchSizes, batchRules};
 ghost use Rattle.rules.specs.Lengths.{refuseTable};
+ghost use Rattle.order.specs.Ranks.{Ranked};
 ghost use Rattle.batches.specs.Lengths.{batchRagged, batchLarge};
 ghost use Rattle.batches.specs.Asked.{readBase};
 ghost use Rattle.joint.specs.Asked.{BaseAsked};
+ghost use Rattle.joiner.specs.Orders.{BirthsOrdered};
 use meaning::Checked;
-use meaning::Refusal;
+use meaning::EdgeTable;
 
-// 20 to 26 over a base that is sound and has mutations so many.
+// 1 to 10 of the base; the front of by_birth is left with its nodes by birth where nothing is refused.
+fn base_checked(
+    len: u32,
+    time: &[u32],
+    birth: &[u32],
+    by_birth: &mut [u32],
+    left: &[u32],
+    right: &[u32],
+    parent: &[u32],
+    child: &[u32],
+    position: &[u32],
+    ancestral: &[u8],
+    site: &[u32],
+    node: &[u32],
+    derived: &[u8],
+) -> Checked
+    requires { ⌜ length (now «by_birth») ≡ 1024 ⌝ }
+    ensures { λ r. ⌜
+        (checkedOf r
+        ≡ checkThen limits len
+        (tables
+        (nodeTable (now (time .entry)) (now (birth .entry)))
+        (edgeTable (now (left .entry)) (now (right .entry)) (now (parent .entry)) (now (child .entry)))
+        (siteTable (now (position .entry)) (now (ancestral .entry)))
+        (mutationTable (now (site .entry)) (now (node .entry)) (now (derived .entry)))) done) × BirthsOrdered r (now (birth .entry)) (take (length (now (birth .entry))) (now («by_birth» .exit))) ⌝ }
+{
+    let mut by_child = [0u32; EdgeTable::MOST];
+    checker::check_lent(
+        len,
+        time,
+        birth,
+        left,
+        right,
+        parent,
+        child,
+        position,
+        ancestral,
+        site,
+        node,
+        derived,
+        &mut by_child,
+        by_birth,
+    )
+}
+
+// 20 to 26 over a base that is sound, has mutations so many and its nodes by birth; the front of by_birth is left with the batch's nodes by birth where nothing is refused.
 fn batch_checked(
     len: u32,
     basetime: &[u32],
     basebirth: &[u32],
+    base_by_birth: &[u32],
     baseleft: &[u32],
     baseright: &[u32],
     baseparent: &[u32],
@@ -25,6 +73,7 @@ fn batch_checked(
     basemutations: usize,
     time: &[u32],
     birth: &[u32],
+    by_birth: &mut [u32],
     left: &[u32],
     right: &[u32],
     parent: &[u32],
@@ -33,16 +82,17 @@ fn batch_checked(
     node: &[u32],
     derived: &[u8],
 ) -> Checked
-    requires { ⌜ BaseAsked (nodeTable (now basetime) (now basebirth)) (edgeTable (now baseleft) (now baseright) (now baseparent) (now basechild)) (now position) ⌝ }
+    requires { ⌜ BaseAsked (nodeTable (now basetime) (now basebirth)) (edgeTable (now baseleft) (now baseright) (now baseparent) (now basechild)) (now position) × Ranked (now basebirth) (now «base_by_birth») × (length (now «by_birth») ≡ 1024) ⌝ }
     ensures { λ r. ⌜
-        checkedOf r
+        (checkedOf r
         ≡ refuseTable 20 (batchRagged (length (now (time .entry))) (length (now (birth .entry))) (length (now (left .entry))) (length (now (right .entry))) (length (now (parent .entry))) (length (now (child .entry))) (length (now (site .entry))) (length (now (node .entry))) (length (now (derived .entry)))) (refuseTable 21 (batchLarge limits (length (now (basetime .entry))) (length (now (baseleft .entry))) basemutations (length (now (time .entry))) (length (now (left .entry))) (length (now (site .entry)))) (batchRules len (readBase (now (basetime .entry)) (now (basebirth .entry))
         (edgeTable (now (baseleft .entry)) (now (baseright .entry)) (now (baseparent .entry)) (now (basechild .entry))) (now (position .entry)))
         (batchTables
         (nodeTable (now (time .entry)) (now (birth .entry)))
         (edgeTable (now (left .entry)) (now (right .entry)) (now (parent .entry)) (now (child .entry)))
-        (mutationTable (now (site .entry)) (now (node .entry)) (now (derived .entry)))) done)) ⌝ }
+        (mutationTable (now (site .entry)) (now (node .entry)) (now (derived .entry)))) done))) × BirthsOrdered r (now (birth .entry)) (take (length (now (birth .entry))) (now («by_birth» .exit))) ⌝ }
 {
+    let n = birth.len();
     let s = batches::whole::lengths_checked(
         basetime.len(),
         baseleft.len(),
@@ -63,6 +113,7 @@ fn batch_checked(
             len,
             basetime,
             basebirth,
+            base_by_birth,
             baseleft,
             baseright,
             baseparent,
@@ -70,6 +121,7 @@ fn batch_checked(
             position,
             time,
             birth,
+            &mut by_birth[..n],
             left,
             right,
             parent,
@@ -81,11 +133,12 @@ fn batch_checked(
     }
 }
 
-// 1 to 10 of the base, then 20 to 26 of the batch: all of a join's answers but 13.
+// 1 to 10 of the base, then 20 to 26 of the batch: all of a join's answers but 13; the fronts of base_by_birth and by_birth are left with the nodes by birth where nothing is refused.
 pub fn check_join(
     len: u32,
     basetime: &[u32],
     basebirth: &[u32],
+    base_by_birth: &mut [u32],
     baseleft: &[u32],
     baseright: &[u32],
     baseparent: &[u32],
@@ -97,6 +150,7 @@ pub fn check_join(
     basederived: &[u8],
     time: &[u32],
     birth: &[u32],
+    by_birth: &mut [u32],
     left: &[u32],
     right: &[u32],
     parent: &[u32],
@@ -105,8 +159,9 @@ pub fn check_join(
     node: &[u32],
     derived: &[u8],
 ) -> Checked
+    requires { ⌜ (length (now «base_by_birth») ≡ 1024) × (length (now «by_birth») ≡ 1024) ⌝ }
     ensures { λ r. ⌜
-        checkedOf r
+        (checkedOf r
         ≡ checkThen limits len
         (tables
         (nodeTable (now (basetime .entry)) (now (basebirth .entry)))
@@ -134,12 +189,14 @@ pub fn check_join(
         (batchTables
         (nodeTable (now (time .entry)) (now (birth .entry)))
         (edgeTable (now (left .entry)) (now (right .entry)) (now (parent .entry)) (now (child .entry)))
-        (mutationTable (now (site .entry)) (now (node .entry)) (now (derived .entry)))) done))) ⌝ }
+        (mutationTable (now (site .entry)) (now (node .entry)) (now (derived .entry)))) done)))) × BirthsOrdered r (now (basebirth .entry)) (take (length (now (basebirth .entry))) (now («base_by_birth» .exit))) × BirthsOrdered r (now (birth .entry)) (take (length (now (birth .entry))) (now («by_birth» .exit))) ⌝ }
 {
-    let t = checker::check_tables(
+    let n = basebirth.len();
+    let t = base_checked(
         len,
         basetime,
         basebirth,
+        base_by_birth,
         baseleft,
         baseright,
         baseparent,
@@ -156,6 +213,7 @@ pub fn check_join(
             len,
             basetime,
             basebirth,
+            &base_by_birth[..n],
             baseleft,
             baseright,
             baseparent,
@@ -164,6 +222,7 @@ pub fn check_join(
             basesite.len(),
             time,
             birth,
+            by_birth,
             left,
             right,
             parent,

@@ -8,6 +8,7 @@ ghost use Rattle.meaning.specs.Answer.{done, limits, put};
 ghost use Rattle.meaning.specs.Lent.{cellsBy};
 ghost use Rattle.meaning.specs.Join.{batchTables, joinedOf, joined};
 ghost use Rattle.accepted.specs.Rooms.{Fits};
+ghost use Rattle.order.specs.Ranks.{Ranked};
 ghost use Rattle.writing.specs.Room.{roomOf};
 ghost use Rattle.joiner.specs.Joinable.{Joinable};
 ghost use Rattle.joiner.specs.Outcome.{afterChecks};
@@ -98,11 +99,12 @@ fn write_sites(
     writing::copy_states(ancestral, position.len(), out_ancestral);
 }
 
-// All four tables.
+// All four tables, with the nodes of base and batch by birth.
 fn write_all(
     len: u32,
     basetime: &[u32],
     basebirth: &[u32],
+    base_by_birth: &[u32],
     baseleft: &[u32],
     baseright: &[u32],
     baseparent: &[u32],
@@ -114,6 +116,7 @@ fn write_all(
     basederived: &[u8],
     time: &[u32],
     birth: &[u32],
+    by_birth: &[u32],
     left: &[u32],
     right: &[u32],
     parent: &[u32],
@@ -157,7 +160,7 @@ fn write_all(
         (nodeTable (now «out_time») (now «out_birth»))
         (edgeTable (now «out_left») (now «out_right») (now «out_parent») (now «out_child»))
         (siteTable (now «out_position») (now «out_ancestral»))
-        (mutationTable (now «out_site») (now «out_node») (now «out_derived»))) ⌝ }
+        (mutationTable (now «out_site») (now «out_node») (now «out_derived»))) × Ranked (now basebirth) (now «base_by_birth») × Ranked (now birth) (now «by_birth») ⌝ }
     ensures { λ _. ⌜
         (tables
         (nodeTable (now («out_time» .exit)) (now («out_birth» .exit)))
@@ -185,12 +188,14 @@ fn write_all(
         len,
         basetime,
         basebirth,
+        base_by_birth,
         baseleft,
         baseright,
         baseparent,
         basechild,
         time,
         birth,
+        by_birth,
         left,
         right,
         parent,
@@ -203,7 +208,9 @@ fn write_all(
     write_sites(position, ancestral, out_position, out_ancestral);
     joint::mutations::join_mutations(
         basebirth,
+        base_by_birth,
         birth,
+        by_birth,
         basesite,
         basenode,
         basederived,
@@ -216,11 +223,12 @@ fn write_all(
     );
 }
 
-// 13 with nothing written, or 0 with the result at the front of each column.
+// 13 with nothing written, or 0 with the result at the front of each column; base_by_birth and by_birth have the nodes by birth.
 pub fn store(
     len: u32,
     basetime: &[u32],
     basebirth: &[u32],
+    base_by_birth: &[u32],
     baseleft: &[u32],
     baseright: &[u32],
     baseparent: &[u32],
@@ -232,6 +240,7 @@ pub fn store(
     basederived: &[u8],
     time: &[u32],
     birth: &[u32],
+    by_birth: &[u32],
     left: &[u32],
     right: &[u32],
     parent: &[u32],
@@ -262,7 +271,7 @@ pub fn store(
         (batchTables
         (nodeTable (now time) (now birth))
         (edgeTable (now left) (now right) (now parent) (now child))
-        (mutationTable (now site) (now node) (now derived))) ⌝ }
+        (mutationTable (now site) (now node) (now derived))) × Ranked (now basebirth) (now «base_by_birth») × Ranked (now birth) (now «by_birth») ⌝ }
     ensures { λ r. ⌜
         joinedOf r
         (tables
@@ -314,6 +323,7 @@ pub fn store(
         len,
         basetime,
         basebirth,
+        base_by_birth,
         baseleft,
         baseright,
         baseparent,
@@ -325,6 +335,7 @@ pub fn store(
         basederived,
         time,
         birth,
+        by_birth,
         left,
         right,
         parent,

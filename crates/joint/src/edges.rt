@@ -1,6 +1,7 @@
 // The edges of a join in key order: a column of rows is sorted, and each column is written by it.
 ghost use mathlib.Core.Path.{_≡_};
 ghost use lib.ListN.{length};
+ghost use Rattle.order.specs.Ranks.{Helps};
 ghost use Rattle.batches.specs.Joint.{JointPut};
 ghost use Rattle.joint.specs.Sorting.{edgeOrder, edgesIn, Sortable, EdgeRoom};
 ghost use mathlib.Core.List.{[]};
@@ -117,17 +118,19 @@ pub fn write_edges(
     );
 }
 
-// Writes the joined record's edges: the base's and the batch's in key order, none merged.
+// Writes the joined record's edges: the base's and the batch's in key order, none merged; baseidx and idx help to find the rows of births.
 pub fn join_edges(
     len: u32,
     basetime: &[u32],
     basebirth: &[u32],
+    baseidx: &[u32],
     baseleft: &[u32],
     baseright: &[u32],
     baseparent: &[u32],
     basechild: &[u32],
     time: &[u32],
     birth: &[u32],
+    idx: &[u32],
     left: &[u32],
     right: &[u32],
     parent: &[u32],
@@ -141,7 +144,7 @@ pub fn join_edges(
         EdgesAsked len (readBase (now basetime) (now basebirth)
         (edgeTable (now baseleft) (now baseright) (now baseparent) (now basechild)) []) (readBatch (now time) (now birth)
         (edgeTable (now left) (now right) (now parent) (now child)) [] [])
-        (edgeTable (now outleft) (now outright) (now outparent) (now outchild)) ⌝ }
+        (edgeTable (now outleft) (now outright) (now outparent) (now outchild)) × Helps (now basebirth) (now baseidx) × Helps (now birth) (now idx) ⌝ }
     ensures { λ _. ⌜
         JointPut (joined len (readBase (now (basetime .entry)) (now (basebirth .entry))
         (edgeTable (now (baseleft .entry)) (now (baseright .entry)) (now (baseparent .entry)) (now (basechild .entry))) []) (readBatch (now (time .entry)) (now (birth .entry))
@@ -161,7 +164,9 @@ pub fn join_edges(
     batches::columns::append(basebirth, birth, &mut allbirth);
     batches::columns::joint_columns(
         basebirth,
+        baseidx,
         birth,
+        idx,
         baseleft,
         baseright,
         baseparent,

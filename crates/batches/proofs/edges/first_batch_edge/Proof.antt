@@ -1,7 +1,7 @@
--- `first_edge` meets its contract: no edge before the one looked at is broken.
+-- `first_batch_edge` meets its contract: no edge before the one looked at is broken.
 use borrow.Author.Needs.{needs}
-use Rattle.batches.proofs.edges.first_edge.Statement.{statement}
-use Rattle.batches.proofs.edges.first_edge.Tie as tie
+use Rattle.batches.proofs.edges.first_batch_edge.Statement.{statement}
+use Rattle.batches.proofs.edges.first_batch_edge.Tie as tie
 use mathlib.Core.Path.{_≡_, sym, _∙_}
 use Prim.Native.Nat.{_≤_, _-_}
 use lib.ListN.{length}
@@ -35,8 +35,8 @@ loop-again c = (search needs, sought-miss _ _ _ (c .before .before .loop-test .t
 returns-2 : tie.Need-returns-2 Inv-loop μ-loop
 returns-2 c = sought-none _ _ _ (c .before .loop .inv .0) (c .loop-test .left) (c .before .loop .inv .1)
 
-pub first-edge-spec : {M : Type 1} → statement M
-first-edge-spec =
+pub first-batch-edge-spec : {M : Type 1} → statement M
+first-batch-edge-spec =
     tie.close
     (tie.spec
     Inv-loop

@@ -1,7 +1,7 @@
--- `first_mutation` meets its contract: no mutation before the one looked at is broken.
+-- `first_batch_mutation` meets its contract: no mutation before the one looked at is broken.
 use borrow.Author.Needs.{needs}
-use Rattle.batches.proofs.mutations.first_mutation.Statement.{statement}
-use Rattle.batches.proofs.mutations.first_mutation.Tie as tie
+use Rattle.batches.proofs.mutations.first_batch_mutation.Statement.{statement}
+use Rattle.batches.proofs.mutations.first_batch_mutation.Tie as tie
 use mathlib.Core.Path.{_≡_, sym, _∙_}
 use Prim.Native.Nat.{_≤_, _-_}
 use lib.ListN.{length}
@@ -35,8 +35,8 @@ loop-again c = (search needs, sought-miss _ _ _ (c .before .before .loop-test .t
 returns-2 : tie.Need-returns-2 Inv-loop μ-loop
 returns-2 c = sought-none _ _ _ (c .before .loop .inv .0) (c .loop-test .left) (c .before .loop .inv .1)
 
-pub first-mutation-spec : {M : Type 1} → statement M
-first-mutation-spec =
+pub first-batch-mutation-spec : {M : Type 1} → statement M
+first-batch-mutation-spec =
     tie.close
     (tie.spec
     Inv-loop

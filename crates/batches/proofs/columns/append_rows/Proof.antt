@@ -1,8 +1,8 @@
--- `append_found` meets its contract: after i cells the front of out is the first i of the rows and the births' rows.
+-- `append_rows` meets its contract: after i cells the front of out is the first i of the rows and the births' rows.
 use native.Mathlib.Omega.{arith}
 use borrow.Author.Needs.{needs}
-use Rattle.batches.proofs.columns.append_found.Statement.{statement}
-use Rattle.batches.proofs.columns.append_found.Tie as tie
+use Rattle.batches.proofs.columns.append_rows.Statement.{statement}
+use Rattle.batches.proofs.columns.append_rows.Tie as tie
 use mathlib.Core.Path.{_≡_, refl, sym, ap, _∙_}
 use mathlib.Core.List.{List, _++_, map}
 use Prim.Native.Nat.{ℕ, _+_, _<_, _≤_, _-_}
@@ -46,8 +46,8 @@ same-length c = c .before .loop .inv .1 .long
 returns : tie.Need-returns Inv-loop μ-loop
 returns c = let q : c .before .loop .i ≡ length (c .before .before .before .before .before .before .before .before .before .args .rows .now ++ map (λ b. indexOf b (c .before .before .before .before .before .before .before .before .before .args .base .now ++ c .before .before .before .before .before .before .before .before .before .args .birth .now)) (c .before .before .before .before .before .before .before .before .before .args .names .now)) = omega (arith, length-mapped (c .before .before .before .before .before .before .before .before .before .args .rows .now) (c .before .before .before .before .before .before .before .before .before .args .names .now) (λ b. indexOf b (c .before .before .before .before .before .before .before .before .before .args .base .now ++ c .before .before .before .before .before .before .before .before .before .args .birth .now)), c .before .loop .inv .0, c .loop-test .left) in front-whole _ _ _ _ q (c .before .loop .inv .1)
 
-pub append-found-spec : {M : Type 1} → statement M
-append-found-spec =
+pub append-rows-spec : {M : Type 1} → statement M
+append-rows-spec =
     tie.close
     (tie.spec
     Inv-loop
