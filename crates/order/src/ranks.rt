@@ -1,7 +1,7 @@
 // The rows of a column by their numbers: made once, and a number is then found by halving.
 ghost use mathlib.Core.Path.{_≡_};
 ghost use Prim.Native.Nat.{_<_, _≤_};
-ghost use lib.ListN.{length, take};
+ghost use lib.ListN.{length};
 ghost use Rattle.meaning.specs.Words.{mem, indexOf};
 ghost use Rattle.order.specs.Ranks.{Ranked, Helps, Placed};
 use crate::Spare;
@@ -40,19 +40,6 @@ pub fn rank(l: &[u32], idx: &mut [u32])
 {
     let mut own = [0u32; Spare::CELLS];
     rank_with(l, &mut own, idx);
-}
-
-// Fills the front of idx with the rows of l by their numbers; how many they are, and 0 where idx is too short for them.
-pub fn rank_front(l: &[u32], idx: &mut [u32]) -> usize
-    requires { ⌜ length (now idx) ≤ 4096 ⌝ }
-    ensures { λ r. ⌜ (r ≤ length (now (idx .entry))) × Helps (now (l .entry)) (take r (now (idx .exit))) ⌝ }
-{
-    let n = l.len();
-    if idx.len() < n {
-        return 0;
-    }
-    rank(l, &mut idx[..n]);
-    n
 }
 
 // The first place whose row has b or more, by halving the range in which it lies.
