@@ -32,7 +32,7 @@
  *
  * Any input is taken, broken rows too: no call crashes, and none runs for ever. A call keeps no state,
  * allocates nothing and reads and writes no file, so threads may call at the same time, each with its own outputs.
- * It needs stack: lend a thread that calls 1 MB. (The most that the tests know how to make a call take is 448,480 bytes.)
+ * It needs stack: lend a thread that calls 1 MB. (The most that the tests know how to make a call take is 336,072 bytes.)
  */
 #ifndef FFRIDWELAN_H
 #define FFRIDWELAN_H
