@@ -152,7 +152,7 @@ pub fn check_lent(
     }
 }
 
-// 1 to 10, for an allele and for the base of a join.
+// 1 to 10, with working columns of its own; allele and join lend theirs to check_lent.
 pub fn check_tables(
     len: u32,
     time: &[u32],
