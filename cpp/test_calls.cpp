@@ -6,6 +6,7 @@
 #include <cstdlib>
 #include <cstring>
 #include <pthread.h>
+#include <sys/mman.h>
 #include <thread>
 
 namespace testing {
@@ -147,9 +148,45 @@ void threads(Suite &s) {
     }
 }
 
+// One parent over so many samples, each below it in so many pieces with gaps between them, and two mutations at each of so many sites: more
+// finished edges, or mutations that move, than a cleaning keeps from its first sweep, so that it sweeps again.
+Record pieces_of_one_parent(std::uint32_t children, std::uint32_t pieces, std::uint32_t sites) {
+    Record r;
+    r.length = 2 * pieces * children + sites;
+    r.tables.nodes.add(9, 5000);
+    for (std::uint32_t c = 1; c <= children; ++c) {
+        r.tables.nodes.add(0, c);
+        r.samples.push_back(c);
+        for (std::uint32_t i = 0; i < pieces; ++i) r.tables.edges.add(2 * i * children + c % 2, 2 * (i + 1) * children - c, 0, c);
+    }
+    for (std::uint32_t i = 0; i < sites; ++i) {
+        r.tables.sites.add(i, 'A');
+        for (std::uint32_t c : {1 + i % children, 1 + (i + 1) % children}) r.tables.mutations.add(i, c, 'C');
+    }
+    return r;
+}
+
+// Results too long for what a cleaning keeps from its first sweep, in rooms that just take them and in ones that do not.
+void swept_again(Suite &s) {
+    struct Size {
+        std::uint32_t children, pieces, sites;
+    };
+    for (const Size z : {Size{256, 15, 0}, Size{256, 8, 1}, Size{256, 9, 1}, Size{2, 1, 512}, Size{3, 2, 256}, Size{3, 2, 257}, Size{256, 15, 512}}) {
+        const Record r = pieces_of_one_parent(z.children, z.pieces, z.sites);
+        const reference::Result due = reference::simplify(r.length, r.tables, r.samples);
+        s.expect(due.tables.edges.left.size() == std::size_t{z.children} * z.pieces && due.tables.mutations.site.size() == 2 * std::size_t{z.sites}, "pieces of one parent are kept");
+        const Rooms exact = Rooms::exact(due);
+        s.clean("swept again", r, Rooms::limits());
+        s.clean("swept again, just room", r, exact);
+        Random random(77);
+        for (int round = 0; round < 20; ++round) s.clean("swept again, some room", r, random_rooms(random, exact));
+    }
+}
+
 // ---- the stack that a call takes, found by a thread on a painted one
 
 const std::size_t kStack = 1 << 20;
+const std::size_t kMost = 220 * 1024; // what a call may take
 
 // The sanitizers keep stacks of their own.
 #ifdef FFR_SANITIZED
@@ -177,24 +214,26 @@ void *run_call(void *data) {
     return nullptr;
 }
 
-std::size_t stack_used(Call &c) {
-    void *memory = nullptr;
-    if (posix_memalign(&memory, 65536, kStack) != 0) return 0;
-    std::memset(memory, 0xa5, kStack);
+// Runs a call on a stack of so many bytes, below which nothing can be written, and tells how many of them it has touched.
+std::size_t stack_used(Call &c, std::size_t bytes_lent) {
+    const std::size_t guard = 65536;
+    void *whole = mmap(nullptr, guard + bytes_lent, PROT_READ | PROT_WRITE, MAP_PRIVATE | MAP_ANONYMOUS, -1, 0);
+    if (whole == MAP_FAILED || mprotect(whole, guard, PROT_NONE) != 0) return 0;
+    unsigned char *memory = static_cast<unsigned char *>(whole) + guard;
+    std::memset(memory, 0xa5, bytes_lent);
     pthread_attr_t attributes;
     pthread_attr_init(&attributes);
-    pthread_attr_setstack(&attributes, memory, kStack);
+    pthread_attr_setstack(&attributes, memory, bytes_lent);
     pthread_t thread;
     std::size_t used = 0;
     if (pthread_create(&thread, &attributes, run_call, &c) == 0) {
         pthread_join(thread, nullptr);
-        const unsigned char *bytes = static_cast<const unsigned char *>(memory);
         std::size_t untouched = 0;
-        while (untouched < kStack && bytes[untouched] == 0xa5) ++untouched;
-        used = kStack - untouched;
+        while (untouched < bytes_lent && memory[untouched] == 0xa5) ++untouched;
+        used = bytes_lent - untouched;
     }
     pthread_attr_destroy(&attributes);
-    std::free(memory);
+    munmap(whole, guard + bytes_lent);
     return used;
 }
 
@@ -224,6 +263,7 @@ std::vector<Call> deep_calls() {
         calls.emplace_back(kind, "a broad record", broad, random_batch(random, broad));
         calls.emplace_back(kind, "two samples in turns under a line", hung, random_batch(random, hung));
         calls.emplace_back(kind, "two mutations below a line (10)", marked_line(FFR_MOST_NODES, 0), Batch{});
+        calls.emplace_back(kind, "one parent in many pieces", pieces_of_one_parent(256, 15, 512), Batch{});
     }
     Record above = marked_line(FFR_MOST_NODES - 1, 1);
     above.tables.mutations = {};
@@ -233,16 +273,19 @@ std::vector<Call> deep_calls() {
 
 void stack(Suite &s) {
     Call none;
-    const std::size_t base = stack_used(none);
+    const std::size_t base = stack_used(none, kStack);
     std::size_t most[3] = {0, 0, 0};
     for (Call &call : deep_calls()) {
-        const std::size_t used = stack_used(call) - base;
+        const std::size_t used = stack_used(call, kStack) - base;
         std::printf("stack of a %s, %s: %zu bytes\n", call.kind == 1 ? "cleaning" : "join", call.what, used);
         s.expect(call.answer == 0, "a call on a stack of 1 MB");
         most[call.kind] = std::max(most[call.kind], used);
+        call.answer = 1;
+        stack_used(call, kMost); // a thread that has no more
+        s.expect(call.answer == 0, "a call on a stack of 220 KiB");
     }
     std::printf("most stack: cleaning %zu bytes, join %zu bytes\n", most[1], most[2]);
-    s.expect(std::max(most[1], most[2]) < kStack / 2, "half of 1 MB of stack is enough");
+    s.expect(std::max(most[1], most[2]) <= kMost, "220 KiB of stack are enough");
 }
 
 Met answers(bool joins) {
@@ -272,6 +315,7 @@ int main(int count, char **words) {
     by_hand(s);
     named_later(s);
     at_limits(s);
+    swept_again(s);
     ragged(s);
     wrapper(s);
     shared_inputs(s);

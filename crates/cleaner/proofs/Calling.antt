@@ -1,6 +1,5 @@
 -- The call: the check's refusal, or what comes after it.
-use mathlib.Core.Path.{_≡_, refl, sym, ap, _∙_}
-use mathlib.Core.Bool.{Bool, true, false}
+use mathlib.Core.Path.{_≡_, sym, ap, _∙_}
 use mathlib.Core.List.{List}
 use Prim.Native.Nat.{ℕ, _<_, _≤_}
 use native.Mathlib.Omega.{arith}
@@ -14,7 +13,7 @@ use Rattle.meaning.specs.Forest.{Ages, stands}
 use Rattle.meaning.specs.Answer.{Answer, done, limits, refusalOf, checkedOf}
 use Rattle.meaning.specs.Check.{checkAllThen, check}
 use Rattle.meaning.specs.Lent.{no-rows-written}
-use Rattle.meaning.specs.Clean.{Outcome, cleanEnd, cleanFit, cleaned, nodeMap, cleaning}
+use Rattle.meaning.specs.Clean.{Outcome, cleanFit, cleaned, nodeMap, cleaning}
 use Rattle.accepted.specs.Calls.{check-tells}
 use Rattle.accepted.specs.Endings.{clean-refused}
 use Rattle.byrows.specs.Ground.{Ground}
@@ -52,8 +51,3 @@ module _ (L : ℕ) (T : Tables) (S : List ℕ) (c : Checked) (e : checkedOf c �
     pub call-done : c ≡ checked.Sound → (o : Outcome) → o ≡ afterCheck L T S out outMap cells → o ≡ cleaning stands limits L T S out outMap cells
     unfolding afterCheck
     call-done q o f = f ∙ sym (cleaning-by L T S out outMap cells rest (goes-on (checkAllThen limits L T S) hand c found q rest))
-
--- what is stored of the result is what comes after the check
-pub after-check : (L : ℕ) (T : Tables) (S : List ℕ) (out : Tables) (outMap : List ℕ) (cells : ℕ) (o : Outcome) → o ≡ cleanEnd (cleanFit limits (cleaned stands L T S) (nodeMap stands L T S) out outMap cells) (cleaned stands L T S) (nodeMap stands L T S) out outMap → o ≡ afterCheck L T S out outMap cells
-unfolding afterCheck
-after-check L T S out outMap cells o e = e

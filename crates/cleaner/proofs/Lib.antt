@@ -2,5 +2,7 @@
 pub mod Storing
 pub mod Ranking
 pub mod Tracing
+pub mod Filling
 pub mod Working
 pub mod Calling
+pub mod Finishing

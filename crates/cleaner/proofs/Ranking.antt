@@ -6,7 +6,7 @@ use mathlib.Core.Logic.{⊎-elim}
 use Prim.Native.Nat.{ℕ, zero, suc, _+_, _-_, _<_, _≤_}
 use native.Mathlib.Omega.{arith}
 use lib.Dec.{eqb}
-use lib.ListN.{length, set, take, drop, length-append}
+use lib.ListN.{length, set, take, length-append}
 use lib.Seq.{ext-getD, getD-set-same, getD-set-other, length-take-le, take-at, take-append-le, take-append-add}
 use Rattle.meaning.specs.Words.{at, count, rows, rowsFrom}
 use Rattle.meaning.specs.Rows.{NodeColumns}

@@ -1,14 +1,12 @@
--- A result that fits: what an answer 0 says of the room, and the answers by the working columns' numbers.
-use mathlib.Core.Path.{_≡_, refl, sym, ap, ap₂, _∙_}
+-- A result that fits: what an answer 0 says of the room, and the answers by the rows counted.
+use mathlib.Core.Path.{_≡_, refl, sym, ap, _∙_}
 use mathlib.Core.Bool.{Bool, true, false}
-use mathlib.Core.List.{List, map}
-use mathlib.Core.Logic.{⊎-elim}
+use mathlib.Core.List.{List}
 use Prim.Native.Nat.{ℕ, zero, suc, min, _<_, _≤_}
 use native.Mathlib.Omega.{arith}
 use lib.Dec.{ltb}
-use lib.ListN.{length, take, length-map}
-use lib.Seq.{length-take-le}
-use borrow.Author.Tests.{ltb-true, ltb-false, lt-ltb, le-ltb}
+use lib.ListN.{length}
+use borrow.Author.Tests.{ltb-true, ltb-false, lt-ltb}
 use Rattle.meaning.specs.Words.{or}
 use Rattle.meaning.specs.Rows.{Tables}
 use Rattle.meaning.specs.Answer.{Answer, answer, done, limits, refuse, accepted, put}
@@ -19,7 +17,6 @@ use Rattle.accepted.specs.Refusals.{Accepted, passed}
 use Rattle.accepted.specs.Endings.{clean-refused, clean-done}
 use Rattle.writing.specs.Room.{Needs, Lent, needsOf, lentBy, roomOf}
 use Rattle.writing.specs.Block.{roomWithin, room-within}
-use Rattle.cleaner.specs.Work.{Base, Work, written, Written, Safe, Held}
 
 -- the rows keep to the limits, and each column has a cell for each
 pub record RoomFor (n : Needs) (l : Lent) : Type 0 where
@@ -74,76 +71,59 @@ room-for n l cells e =
       nodemap = f .0 .1;
     }
 
--- the rows that the working columns hold
-abbrev pub needsIn : Base → Work → Needs
-needsIn B W = record { nodes = W .nodes; edges = W .edges; sites = length (B .position); mutations = W .mutations; rows = length (B .time) }
+-- the rows that a cleaning has counted are those of its result; of the edges, where they keep to their limit, and else these pass it
+pub record Counted (new : Tables) (newMap : List ℕ) (n : Needs) : Type 0 where
+  pub nodes : length (new .nodes .time) ≡ n .nodes
+  pub edges : n .edges ≤ limits .edges → length (new .edges .left) ≡ n .edges
+  pub over : limits .edges < n .edges → limits .edges < length (new .edges .left)
+  pub sites : length (new .sites .position) ≡ n .sites
+  pub mutations : length (new .muts .site) ≡ n .mutations
+  pub rows : length newMap ≡ n .rows
 
-module _ (B : Base) (W : Work) (safe : Safe B W) (new : Tables) (newMap : List ℕ) (h : Held B W new newMap) where
-  nodes-count : length (new .nodes .time) ≡ W .nodes
-  unfolding written
-  nodes-count = ap (λ n. length (n .time)) (h .nodes) ∙ length-map (take (W .nodes) (W .kept)) _ ∙ length-take-le (W .nodes) (W .kept) (safe .kept-long)
-
-  muts-count : length (new .muts .site) ≡ W .mutations
-  unfolding written
-  muts-count = ap (λ n. length (n .site)) (h .muts) ∙ length-map (take (W .mutations) (W .moved)) _ ∙ length-take-le (W .mutations) (W .moved) (safe .moved-long)
-
-  sites-count : length (new .sites .position) ≡ length (B .position)
-  unfolding written
-  sites-count = ap (λ n. length (n .position)) (h .sites)
-
-  map-count : length newMap ≡ length (B .time)
-  map-count = ap length (h .nodemap) ∙ length-take-le (length (B .time)) (W .places) (safe .places-long)
-
-  edges-count : W .edges ≤ limits .edges → length (new .edges .left) ≡ W .edges
-  unfolding written
-  edges-count l = ap (λ n. length (n .left)) (h .edges l) ∙ length-map (take (W .edges) (W .order)) _ ∙ length-take-le (W .edges) (W .order) (safe .order-long l)
-
-  -- whether the edges pass limit or room, by the result and by the columns
-  edges-lack : (room : ℕ) → or (ltb (limits .edges) (length (new .edges .left))) (ltb room (length (new .edges .left))) ≡ or (ltb (limits .edges) (W .edges)) (ltb room (W .edges))
-  edges-lack room = go (ltb (limits .edges) (W .edges)) refl
+module _ (new : Tables) (newMap : List ℕ) (n : Needs) (h : Counted new newMap n) where
+  -- whether the edges pass limit or room, by the result and by the count
+  edges-lack : (room : ℕ) → or (ltb (limits .edges) (length (new .edges .left))) (ltb room (length (new .edges .left))) ≡ or (ltb (limits .edges) (n .edges)) (ltb room (n .edges))
+  edges-lack room = go (ltb (limits .edges) (n .edges)) refl
     where
-      go : (t : Bool) → ltb (limits .edges) (W .edges) ≡ t → or (ltb (limits .edges) (length (new .edges .left))) (ltb room (length (new .edges .left))) ≡ or (ltb (limits .edges) (W .edges)) (ltb room (W .edges))
-      go true e = or-left (ltb room (length (new .edges .left))) (lt-ltb (limits .edges) (length (new .edges .left)) (h .over (ltb-true (limits .edges) (W .edges) e))) ∙ sym (or-left (ltb room (W .edges)) e)
-      go false e = ap (λ z. or (ltb (limits .edges) z) (ltb room z)) (edges-count (ltb-false (limits .edges) (W .edges) e))
+      go : (t : Bool) → ltb (limits .edges) (n .edges) ≡ t → or (ltb (limits .edges) (length (new .edges .left))) (ltb room (length (new .edges .left))) ≡ or (ltb (limits .edges) (n .edges)) (ltb room (n .edges))
+      go true e = or-left (ltb room (length (new .edges .left))) (lt-ltb (limits .edges) (length (new .edges .left)) (h .over (ltb-true (limits .edges) (n .edges) e))) ∙ sym (or-left (ltb room (n .edges)) e)
+      go false e = ap (λ z. or (ltb (limits .edges) z) (ltb room z)) (h .edges (ltb-false (limits .edges) (n .edges) e))
 
-  -- the answer after the check, by the columns' numbers
-  pub fit-answer : (out : Tables) (outMap : List ℕ) (cells : ℕ) → cleanFit limits new newMap out outMap cells ≡ roomWithin (needsIn B W) (lentBy out outMap) cells
+  -- the answer after the check, by the counts
+  fit-answer : (out : Tables) (outMap : List ℕ) (cells : ℕ) → cleanFit limits new newMap out outMap cells ≡ roomWithin n (lentBy out outMap) cells
   unfolding cleanFit roomWithin
   fit-answer out outMap cells = room-within new newMap out outMap cells ∙ same
     where
       l : Lent
       l = lentBy out outMap
 
-      same : roomWithin (needsOf new newMap) l cells ≡ roomWithin (needsIn B W) l cells
+      same : roomWithin (needsOf new newMap) l cells ≡ roomWithin n l cells
       same = λ i.
-          refuse (or (ltb (limits .nodes) (nodes-count i)) (ltb (min (l .time) (l .birth)) (nodes-count i))) 13 1
+          refuse (or (ltb (limits .nodes) (h .nodes i)) (ltb (min (l .time) (l .birth)) (h .nodes i))) 13 1
           (refuse (edges-lack (min (l .left) (min (l .right) (min (l .parent) (l .child)))) i) 13 2
-          (refuse (or (ltb (limits .sites) (sites-count i)) (ltb (min (l .position) (l .ancestral)) (sites-count i))) 13 3
-          (refuse (or (ltb (limits .mutations) (muts-count i)) (ltb (min (l .site) (min (l .node) (l .derived))) (muts-count i))) 13 4
-          (refuse (or (ltb (limits .nodes) (map-count i)) (ltb (l .nodemap) (map-count i))) 13 6 (blockThen cells done)))))
+          (refuse (or (ltb (limits .sites) (h .sites i)) (ltb (min (l .position) (l .ancestral)) (h .sites i))) 13 3
+          (refuse (or (ltb (limits .mutations) (h .mutations i)) (ltb (min (l .site) (min (l .node) (l .derived))) (h .mutations i))) 13 4
+          (refuse (or (ltb (limits .nodes) (h .rows i)) (ltb (l .nodemap) (h .rows i))) 13 6 (blockThen cells done)))))
 
   module _ (out : Tables) (outMap : List ℕ) (cells : ℕ) where
     -- a table without room: nothing is written
-    pub stored-refused : (t : ℕ) → (t ≡ 0 → ⊥) → roomOf t ≡ roomWithin (needsIn B W) (lentBy out outMap) cells → record { answer = answer 13 t; counts = no-rows-written; cells = out; map = outMap } ≡ cleanEnd (cleanFit limits new newMap out outMap cells) new newMap out outMap
+    pub stored-refused : (t : ℕ) → (t ≡ 0 → ⊥) → roomOf t ≡ roomWithin n (lentBy out outMap) cells → record { answer = answer 13 t; counts = no-rows-written; cells = out; map = outMap } ≡ cleanEnd (cleanFit limits new newMap out outMap cells) new newMap out outMap
     unfolding roomOf accepted
-    stored-refused zero n e = absurd (n refl)
-    stored-refused (suc t) n e = sym (ap (λ (a : Answer). cleanEnd a new newMap out outMap) (fit-answer out outMap cells ∙ sym e) ∙ clean-refused (answer 13 (suc t)) refl new newMap out outMap)
+    stored-refused zero z e = absurd (z refl)
+    stored-refused (suc t) z e = sym (ap (λ (a : Answer). cleanEnd a new newMap out outMap) (fit-answer out outMap cells ∙ sym e) ∙ clean-refused (answer 13 (suc t)) refl new newMap out outMap)
 
     -- all fits: the result stands at the front
-    pub stored-done : (t : ℕ) → t ≡ 0 → roomOf t ≡ roomWithin (needsIn B W) (lentBy out outMap) cells → (out' : Tables) (outMap' : List ℕ) → Written B W out outMap out' outMap' → record { answer = done; counts = record { nodes = W .nodes; edges = W .edges; sites = length (B .position); mutations = W .mutations }; cells = out'; map = outMap' } ≡ cleanEnd (cleanFit limits new newMap out outMap cells) new newMap out outMap
-    stored-done t z f out' outMap' w =
-        let e : roomWithin (needsIn B W) (lentBy out outMap) cells ≡ done = room-zero t (needsIn B W) (lentBy out outMap) cells z f in
-        let l : W .edges ≤ limits .edges = room-for (needsIn B W) (lentBy out outMap) cells e .edges-few in
+    pub stored-done : (t : ℕ) → t ≡ 0 → roomOf t ≡ roomWithin n (lentBy out outMap) cells → (out' : Tables) (outMap' : List ℕ) → out' ≡ putAll new out → outMap' ≡ put newMap outMap → record { answer = done; counts = record { nodes = n .nodes; edges = n .edges; sites = n .sites; mutations = n .mutations }; cells = out'; map = outMap' } ≡ cleanEnd (cleanFit limits new newMap out outMap cells) new newMap out outMap
+    stored-done t z f out' outMap' w v =
+        let e : roomWithin n (lentBy out outMap) cells ≡ done = room-zero t n (lentBy out outMap) cells z f in
+        let l : n .edges ≤ limits .edges = room-for n (lentBy out outMap) cells e .edges-few in
         sym (
         ap (λ (a : Answer). cleanEnd a new newMap out outMap) (fit-answer out outMap cells ∙ e)
         ∙ clean-done new newMap out outMap
         ∙ (λ i. record {
           answer = done;
-          counts = record { nodes = nodes-count i; edges = edges-count l i; sites = sites-count i; mutations = muts-count i };
-          cells = (all l ∙ sym (w .cells)) i;
-          map = (ap (λ z. put z outMap) (h .nodemap) ∙ sym (w .nodemap)) i;
+          counts = record { nodes = h .nodes i; edges = h .edges l i; sites = h .sites i; mutations = h .mutations i };
+          cells = sym w i;
+          map = sym v i;
         })
         )
-      where
-        all : W .edges ≤ limits .edges → putAll new out ≡ putAll (written B W) out
-        all l = ap (λ (n : Tables). putAll n out) (λ i. record { nodes = h .nodes i; edges = h .edges l i; sites = h .sites i; muts = h .muts i })

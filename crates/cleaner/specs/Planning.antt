@@ -1,16 +1,15 @@
 -- What the sweep asks, from tables that pass the check and the edge rows in the order of left and of right.
 use mathlib.Core.Path.{_≡_, refl, sym, ap, _∙_}
-use mathlib.Core.Bool.{Bool, true, false}
+use mathlib.Core.Bool.{true}
 use mathlib.Core.List.{List, [], _∷_}
 use mathlib.Core.Logic.{_⊎_, inl, inr, ⊎-elim}
-use Prim.Native.Nat.{ℕ, zero, suc, _+_, _*_, _<_, _≤_}
+use Prim.Native.Nat.{ℕ, zero, suc, _<_, _≤_}
 use native.Mathlib.Omega.{arith}
 use lib.Dec.{eqb}
 use lib.ListN.{length}
 use borrow.Author.Tests.{eq-eqb, ne-eqb, ltb-false}
 use Rattle.meaning.specs.Words.{at, mem, count, indexOf, rows, rowsFrom}
 use Rattle.meaning.specs.Rows.{NodeColumns, EdgeColumns, Tables}
-use Rattle.meaning.specs.Answer.{limits}
 use Rattle.laws.specs.Bools.{eq?}
 use Rattle.laws.specs.Counting.{length-rows, get-rows}
 use Rattle.laws.specs.Members.{at-mem, index-at, index-below}
@@ -18,12 +17,8 @@ use Rattle.order.specs.Order.{Inside, SortedFrom, byKeys}
 use Rattle.order.specs.Counts.{bit, count-nil, count-cons, mem-counted, permuted-mem}
 use Rattle.order.specs.Lex.{trichotomy, one-key}
 use Rattle.order.specs.Tables.{own-inside, permuted-inside}
-use Rattle.byrows.specs.Ground.{Ground}
-use Rattle.mend.specs.Right.{Shape}
 use Rattle.tree.specs.Sweep.{Checked, Index, Plan}
-use Rattle.runs.specs.Runs.{Store, Room}
-use Rattle.sweep.specs.Columns.{Input, State, Sited}
-use Rattle.sweep.specs.Sweeping.{Asked}
+use Rattle.sweep.specs.Columns.{Sited}
 use Rattle.cleaner.specs.Tracing.{Passed}
 
 -- ---- a sorted column of rows has each row once

@@ -1,18 +1,17 @@
 -- Columns read through a list of rows, and cells of a column whose front was written.
 use mathlib.Core.Path.{_≡_, refl, sym, ap, ap₂, _∙_}
-use mathlib.Core.Bool.{Bool, true, false}
 use mathlib.Core.List.{List, [], _∷_, _++_, map}
-use Prim.Native.Nat.{ℕ, zero, suc, _<_, _≤_}
+use Prim.Native.Nat.{ℕ, zero, suc, _+_, _<_, _≤_}
 use native.Mathlib.Omega.{arith}
-use lib.ListN.{length, getD, take, drop, length-map, List·getD-append}
-use lib.Seq.{ext-getD, length-take-le, getD-take}
+use lib.ListN.{length, getD, take, drop, length-map, length-drop, List·getD-append}
+use lib.Seq.{ext-getD, length-take-le, getD-take, getD-drop}
 use Rattle.meaning.specs.Words.{at, rows}
-use Rattle.meaning.specs.Rows.{Edge}
 use Rattle.meaning.specs.Answer.{put}
 use Rattle.laws.specs.Members.{at-map}
 use Rattle.laws.specs.Counting.{length-rows, get-rows}
 use Rattle.laws.specs.Facts.{All, done, also}
 use Rattle.order.specs.Order.{Inside}
+use Rattle.cleaner.specs.Finishing.{Front}
 
 -- two ways to read that agree on rows of a table agree on a list of them
 pub map-inside : {A : Type 0} (n : ℕ) (f g : ℕ → A) (l : List ℕ) → Inside n l → ((v : ℕ) → v < n → f v ≡ g v) → map f l ≡ map g l
@@ -39,3 +38,12 @@ pub all-get : {A : Type 0} {Q : A → Type 0} (d : A) (l : List A) (i : ℕ) →
 all-get d [] i done h = absurd (omega arith)
 all-get d (a ∷ l) zero (also q x) h = q
 all-get d (a ∷ l) (suc i) (also q x) h = all-get d l i x (omega arith)
+
+-- a column whose first cells are those of a list begins with it
+pub front-is : (k : ℕ) (l new : List ℕ) → k ≤ length l → length new ≡ k → ((j : ℕ) → j < k → at l j ≡ at new j) → take k l ≡ new
+front-is k l new h e c = ext-getD 0 (take k l) new (length-take-le k l h ∙ sym e) (λ j b. let i : j < k = omega (arith, length-take-le k l h) in getD-take k l j 0 i ∙ c j i)
+
+-- what is written over the front of a column is written over it as it was
+pub put-over : (k : ℕ) (new old mid : List ℕ) → length new ≡ k → Front k old mid → put new mid ≡ put new old
+unfolding put
+put-over k new old mid e f = ap (λ (z : List ℕ). new ++ z) (ext-getD 0 (drop (length new) mid) (drop (length new) old) (omega (arith, length-drop (length new) mid, length-drop (length new) old, f .long)) (λ i l. getD-drop (length new) mid i 0 ∙ f .past (length new + i) (omega arith) ∙ sym (getD-drop (length new) old i 0)))

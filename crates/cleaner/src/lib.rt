@@ -7,6 +7,8 @@ ghost use Rattle.meaning.specs.Forest.{stands};
 ghost use Rattle.meaning.specs.Answer.{limits};
 ghost use Rattle.meaning.specs.Clean.{outcomeOf, cleaning};
 
+mod fill;
+mod finish;
 mod rank;
 mod sound;
 mod store;
@@ -114,6 +116,7 @@ fn clean_lent(
             out_derived,
             out_map,
             cells,
+            by_child,
             &by_birth[..m],
         ),
     }

@@ -1,29 +1,32 @@
-// Cleaning of tables that the check passes, by working columns on the stack.
-// Arrays on the stack: 20,480 bytes in `clean_within`, 99,328 in `clean_sound`, 2,048 in `work`, 32,768 in `trace`, 122,880 in
-// `swept`; 277,504 at most at once (`order_edges` has 49,152 after the trace is done).
+// Cleaning of tables that the check passes, by working columns on the stack: one sweep counts, and what it finds is kept where the columns
+// have room for it; where they have not, a second sweep writes it to the lent columns.
 ghost use mathlib.Core.Path.{_≡_};
 ghost use mathlib.Core.List.{List};
 ghost use Prim.Native.Nat.{ℕ, _≤_};
 ghost use lib.ListN.{length};
 ghost use Rattle.meaning.specs.Rows.{nodeTable, edgeTable, siteTable, mutationTable, tables};
-ghost use Rattle.meaning.specs.Forest.{stands};
 ghost use Rattle.meaning.specs.Answer.{limits};
-ghost use Rattle.meaning.specs.Clean.{outcomeOf, cleaned, nodeMap};
+ghost use Rattle.meaning.specs.Clean.{outcomeOf};
 ghost use Rattle.order.specs.Ranks.{Ranked};
 ghost use Rattle.byrows.specs.Ground.{Ground};
 ghost use Rattle.cleaner.specs.Outcome.{afterCheck};
 ghost use Rattle.cleaner.specs.Tracing.{Passed};
-ghost use Rattle.cleaner.specs.Work.{Holds};
+ghost use Rattle.cleaner.specs.Work.{Ready};
 use crate::rank;
 use crate::store;
 use crate::trace;
 use meaning::EdgeTable;
-use meaning::MutationTable;
 use meaning::NodeTable;
 use meaning::Tabled;
 
 // Room for the samples' rows and then every row.
 const KEPT: usize = 1280;
+
+// As many finished edges of the first sweep are kept.
+const EDGES: usize = 2048;
+
+// As many mutations that move are kept.
+const MOVES: usize = 512;
 
 // How many rows of nodes, edges and mutations a result has; one edge more than the limit where they pass it.
 struct Sizes {
@@ -32,7 +35,7 @@ struct Sizes {
     mutations: usize,
 }
 
-// The result of a cleaning in working columns.
+// The first sweep, the rows kept and their places.
 fn work(
     len: u32,
     time: &[u32],
@@ -45,55 +48,27 @@ fn work(
     site: &[u32],
     node: &[u32],
     samples: &[u32],
+    by_birth: &[u32],
     kept: &mut [u32],
+    places: &mut [u32],
+    sample: &mut [u8],
+    bl: &mut [u32],
+    br: &mut [u32],
     fl: &mut [u32],
     fr: &mut [u32],
     fp: &mut [u32],
     fc: &mut [u32],
-    order: &mut [u32],
-    places: &mut [u32],
-    lows: &mut [u32],
-    moved: &mut [u32],
-    by_birth: &[u32],
+    stood: &mut [u8],
+    mrow: &mut [u32],
+    mlow: &mut [u32],
 ) -> Sizes
     requires { ⌜
         Passed len
         (nodeTable (now time) (now birth))
-        (edgeTable (now left) (now right) (now parent) (now child)) (now position) (now site) (now node) (now samples) × ((length (now kept) ≡ 1280) × (length (now fl) ≡ limits .edges) × (length (now fr) ≡ limits .edges) × (length (now fp) ≡ limits .edges) × (length (now fc) ≡ limits .edges) × (length (now order) ≡ limits .edges) × (length (now places) ≡ limits .nodes) × (length (now lows) ≡ limits .mutations) × (length (now moved) ≡ limits .mutations)) × Ranked (now birth) (now «by_birth») ⌝ }
-    ensures { λ r. ⌜
-        ((A D : List ℕ) → Ground limits len (record {
-          nodes =
-              (nodeTable (now (time .entry)) (now (birth .entry)));
-          edges =
-              (edgeTable (now (left .entry)) (now (right .entry)) (now (parent .entry)) (now (child .entry)));
-          sites = record { position = now (position .entry); ancestral = A };
-          muts = record { site = now (site .entry); node = now (node .entry); derived = D };
-        }) (now (samples .entry)) → Holds (record {
-          nodes =
-              (nodeTable (now (time .entry)) (now (birth .entry)));
-          edges =
-              (edgeTable (now (left .entry)) (now (right .entry)) (now (parent .entry)) (now (child .entry)));
-          sites = record { position = now (position .entry); ancestral = A };
-          muts = record { site = now (site .entry); node = now (node .entry); derived = D };
-        }) (record { kept = now (kept .exit); left = now (fl .exit); right = now (fr .exit); parent = now (fp .exit); child = now (fc .exit); order = now (order .exit); places = now (places .exit); lows = now (lows .exit); moved = now (moved .exit); nodes = r .nodes; edges = r .edges; mutations = r .mutations }) (cleaned stands len (record {
-          nodes =
-              (nodeTable (now (time .entry)) (now (birth .entry)));
-          edges =
-              (edgeTable (now (left .entry)) (now (right .entry)) (now (parent .entry)) (now (child .entry)));
-          sites = record { position = now (position .entry); ancestral = A };
-          muts = record { site = now (site .entry); node = now (node .entry); derived = D };
-        }) (now (samples .entry))) (nodeMap stands len (record {
-          nodes =
-              (nodeTable (now (time .entry)) (now (birth .entry)));
-          edges =
-              (edgeTable (now (left .entry)) (now (right .entry)) (now (parent .entry)) (now (child .entry)));
-          sites = record { position = now (position .entry); ancestral = A };
-          muts = record { site = now (site .entry); node = now (node .entry); derived = D };
-        }) (now (samples .entry)))) ⌝ }
+        (edgeTable (now left) (now right) (now parent) (now child)) (now position) (now site) (now node) (now samples) × ((length (now kept) ≡ 1280) × (length (now places) ≡ limits .nodes) × (length (now sample) ≡ limits .nodes) × (length (now bl) ≡ limits .edges) × (length (now br) ≡ limits .edges) × (length (now fr) ≡ length (now fl)) × (length (now fp) ≡ length (now fl)) × (length (now fc) ≡ length (now fl)) × (length (now stood) ≡ limits .nodes) × (length (now mlow) ≡ length (now mrow))) × Ranked (now birth) (now «by_birth») ⌝ }
+    ensures { λ r. ⌜ ((A D : List ℕ) → Ground limits len (record { nodes = nodeTable (now (time .entry)) (now (birth .entry)); edges = edgeTable (now (left .entry)) (now (right .entry)) (now (parent .entry)) (now (child .entry)); sites = record { position = now (position .entry); ancestral = A }; muts = record { site = now (site .entry); node = now (node .entry); derived = D } }) (now (samples .entry)) → Ready len (record { nodes = nodeTable (now (time .entry)) (now (birth .entry)); edges = edgeTable (now (left .entry)) (now (right .entry)) (now (parent .entry)) (now (child .entry)); sites = record { position = now (position .entry); ancestral = A }; muts = record { site = now (site .entry); node = now (node .entry); derived = D } }) (now (samples .entry)) (record { kept = now (kept .exit); nodes = r .nodes; places = now (places .exit); sample = now (sample .exit); by-left = now (bl .exit); by-right = now (br .exit); store = record { left = now (fl .exit); right = now (fr .exit); parent = now (fp .exit); child = now (fc .exit); stood = now (stood .exit); count = r .edges }; moves = record { row = now (mrow .exit); low = now (mlow .exit); count = r .mutations } })) ⌝ }
 {
-    let mut sample = [0u8; NodeTable::MOST];
-    let mut stood = [0u8; NodeTable::MOST];
-    let edges = trace::trace(
+    let found = trace::trace(
         len,
         time,
         birth,
@@ -105,27 +80,28 @@ fn work(
         site,
         node,
         samples,
+        by_birth,
         kept,
-        &mut sample,
+        sample,
+        bl,
+        br,
         fl,
         fr,
         fp,
         fc,
-        &mut stood,
-        lows,
-        by_birth,
+        stood,
+        mrow,
+        mlow,
     );
-    let nodes = rank::keep_rows(time, birth, &sample, &stood, samples.len(), kept, places);
-    rank::finish_edges(time, birth, places, fl, fp, fc, edges, order);
-    let mutations = rank::finish_mutations(places, site.len(), lows, moved);
+    let nodes = rank::keep_rows(time, birth, sample, stood, samples.len(), kept, places);
     Sizes {
         nodes: nodes,
-        edges: edges,
-        mutations: mutations,
+        edges: found.edges,
+        mutations: found.mutations,
     }
 }
 
-// Cleaning of tables that the check passes, with the nodes by birth as it leaves them.
+// Cleaning of tables that the check passes, with the nodes by birth as it leaves them; bl is a working column.
 pub fn clean_sound(
     len: u32,
     time: &[u32],
@@ -153,6 +129,7 @@ pub fn clean_sound(
     out_derived: &mut [u8],
     out_map: &mut [u32],
     cells: usize,
+    bl: &mut [u32],
     by_birth: &[u32],
 ) -> Tabled
     requires { ⌜
@@ -161,7 +138,7 @@ pub fn clean_sound(
         (nodeTable (now time) (now birth))
         (edgeTable (now left) (now right) (now parent) (now child))
         (siteTable (now position) (now ancestral))
-        (mutationTable (now site) (now node) (now derived))) (now samples) × Ranked (now birth) (now «by_birth») ⌝ }
+        (mutationTable (now site) (now node) (now derived))) (now samples) × Ranked (now birth) (now «by_birth») × (length (now bl) ≡ limits .edges) ⌝ }
     ensures { λ r. ⌜
         outcomeOf r
         (tables
@@ -182,14 +159,16 @@ pub fn clean_sound(
         (mutationTable (now («out_site» .entry)) (now («out_node» .entry)) (now («out_derived» .entry)))) (now («out_map» .entry)) cells ⌝ }
 {
     let mut kept = [0u32; KEPT];
-    let mut fl = [0u32; EdgeTable::MOST];
-    let mut fr = [0u32; EdgeTable::MOST];
-    let mut fp = [0u32; EdgeTable::MOST];
-    let mut fc = [0u32; EdgeTable::MOST];
-    let mut order = [0u32; EdgeTable::MOST];
     let mut places = [0u32; NodeTable::MOST];
-    let mut lows = [0u32; MutationTable::MOST];
-    let mut moved = [0u32; MutationTable::MOST];
+    let mut sample = [0u8; NodeTable::MOST];
+    let mut br = [0u32; EdgeTable::MOST];
+    let mut fl = [0u32; EDGES];
+    let mut fr = [0u32; EDGES];
+    let mut fp = [0u32; EDGES];
+    let mut fc = [0u32; EDGES];
+    let mut stood = [0u8; NodeTable::MOST];
+    let mut mrow = [0u32; MOVES];
+    let mut mlow = [0u32; MOVES];
     let z = work(
         len,
         time,
@@ -202,33 +181,47 @@ pub fn clean_sound(
         site,
         node,
         samples,
+        by_birth,
         &mut kept,
+        &mut places,
+        &mut sample,
+        bl,
+        &mut br,
         &mut fl,
         &mut fr,
         &mut fp,
         &mut fc,
-        &mut order,
-        &mut places,
-        &mut lows,
-        &mut moved,
-        by_birth,
+        &mut stood,
+        &mut mrow,
+        &mut mlow,
     );
     store::store(
+        len,
         time,
         birth,
+        left,
+        right,
+        parent,
+        child,
         position,
         ancestral,
         site,
+        node,
         derived,
+        samples,
+        by_birth,
         &kept,
+        &places,
+        &sample,
+        bl,
+        &mut br,
         &fl,
         &fr,
         &fp,
         &fc,
-        &order,
-        &places,
-        &lows,
-        &moved,
+        &mut stood,
+        &mrow,
+        &mlow,
         z.nodes,
         z.edges,
         z.mutations,

@@ -4,13 +4,19 @@ ghost use mathlib.Core.List.{List, map};
 ghost use Prim.Native.Nat.{ℕ, _<_, _≤_};
 ghost use lib.ListN.{length, take};
 ghost use Rattle.meaning.specs.Words.{at};
-ghost use Rattle.meaning.specs.Rows.{Tables};
-ghost use Rattle.meaning.specs.Answer.{limits, put};
+ghost use Rattle.meaning.specs.Forest.{stands};
+ghost use Rattle.meaning.specs.Answer.{put};
+ghost use Rattle.meaning.specs.Lent.{putAll};
+ghost use Rattle.meaning.specs.Clean.{outcomeOf, cleaned, nodeMap};
 ghost use Rattle.order.specs.Order.{Inside};
-ghost use Rattle.meaning.specs.Clean.{outcomeOf, cleanEnd, cleanFit};
+ghost use Rattle.order.specs.Ranks.{Ranked};
 ghost use Rattle.writing.specs.Room.{lentBy};
 ghost use Rattle.cleaner.specs.Fitting.{RoomFor};
-ghost use Rattle.cleaner.specs.Work.{Safe, Held, Written};
+ghost use Rattle.cleaner.specs.Outcome.{afterCheck};
+ghost use Rattle.cleaner.specs.Work.{Ready};
+ghost use Rattle.cleaner.specs.Lists.{RoomForLists, ListsWritten};
+use crate::fill;
+use crate::finish;
 use meaning::Refusal;
 use meaning::Tabled;
 
@@ -30,28 +36,6 @@ fn write_nodes(
     writing::gather(birth, kept, k, out_birth);
 }
 
-// Table 2: the finished edges in key order.
-fn write_edges(
-    left: &[u32],
-    right: &[u32],
-    parent: &[u32],
-    child: &[u32],
-    order: &[u32],
-    k: usize,
-    out_left: &mut [u32],
-    out_right: &mut [u32],
-    out_parent: &mut [u32],
-    out_child: &mut [u32],
-)
-    requires { ⌜ (k ≤ length (now order)) × (k ≤ length (now «out_left»)) × (k ≤ length (now «out_right»)) × (k ≤ length (now «out_parent»)) × (k ≤ length (now «out_child»)) × Inside (length (now left)) (take k (now order)) × (length (now right) ≡ length (now left)) × (length (now parent) ≡ length (now left)) × (length (now child) ≡ length (now left)) ⌝ }
-    ensures { λ _. ⌜ (now («out_left» .exit) ≡ put (map (at (now (left .entry))) (take k (now (order .entry)))) (now («out_left» .entry))) × (now («out_right» .exit) ≡ put (map (at (now (right .entry))) (take k (now (order .entry)))) (now («out_right» .entry))) × (now («out_parent» .exit) ≡ put (map (at (now (parent .entry))) (take k (now (order .entry)))) (now («out_parent» .entry))) × (now («out_child» .exit) ≡ put (map (at (now (child .entry))) (take k (now (order .entry)))) (now («out_child» .entry))) ⌝ }
-{
-    writing::gather(left, order, k, out_left);
-    writing::gather(right, order, k, out_right);
-    writing::gather(parent, order, k, out_parent);
-    writing::gather(child, order, k, out_child);
-}
-
 // Table 3: all sites, unchanged.
 fn write_sites(
     position: &[u32],
@@ -66,42 +50,129 @@ fn write_sites(
     writing::copy_states(ancestral, position.len(), out_ancestral);
 }
 
-// Table 4: the mutations that move.
-fn write_mutations(
-    site: &[u32],
-    lows: &[u32],
-    derived: &[u8],
-    moved: &[u32],
-    k: usize,
-    out_site: &mut [u32],
-    out_node: &mut [u32],
-    out_derived: &mut [u8],
-)
-    requires { ⌜ (k ≤ length (now moved)) × (k ≤ length (now «out_site»)) × (k ≤ length (now «out_node»)) × (k ≤ length (now «out_derived»)) × Inside (length (now site)) (take k (now moved)) × (length (now site) ≤ length (now lows)) × (length (now derived) ≡ length (now site)) ⌝ }
-    ensures { λ _. ⌜ (now («out_site» .exit) ≡ put (map (at (now (site .entry))) (take k (now (moved .entry)))) (now («out_site» .entry))) × (now («out_node» .exit) ≡ put (map (at (now (lows .entry))) (take k (now (moved .entry)))) (now («out_node» .entry))) × (now («out_derived» .exit) ≡ put (map (at (now (derived .entry))) (take k (now (moved .entry)))) (now («out_derived» .entry))) ⌝ }
-{
-    writing::gather(site, moved, k, out_site);
-    writing::gather(lows, moved, k, out_node);
-    writing::gather_states(derived, moved, k, out_derived);
-}
-
-// All five tables.
-fn write_all(
+// Tables 2 and 4: the sweep's lists at the fronts of the columns, then the edges in key order and all rows by their places.
+fn write_lists(
+    len: u32,
     time: &[u32],
     birth: &[u32],
-    position: &[u32],
-    ancestral: &[u8],
-    site: &[u32],
-    derived: &[u8],
-    kept: &[u32],
     left: &[u32],
     right: &[u32],
     parent: &[u32],
     child: &[u32],
-    order: &[u32],
+    position: &[u32],
+    ancestral: &[u8],
+    site: &[u32],
+    node: &[u32],
+    derived: &[u8],
+    samples: &[u32],
+    by_birth: &[u32],
+    kept: &[u32],
     places: &[u32],
-    lows: &[u32],
-    moved: &[u32],
+    sample: &[u8],
+    bl: &mut [u32],
+    br: &mut [u32],
+    fl: &[u32],
+    fr: &[u32],
+    fp: &[u32],
+    fc: &[u32],
+    stood: &mut [u8],
+    mrow: &[u32],
+    mlow: &[u32],
+    nodes: usize,
+    edges: usize,
+    mutations: usize,
+    out_left: &mut [u32],
+    out_right: &mut [u32],
+    out_parent: &mut [u32],
+    out_child: &mut [u32],
+    out_site: &mut [u32],
+    out_node: &mut [u32],
+    out_derived: &mut [u8],
+)
+    requires { ⌜ Ready len (record { nodes = record { time = now time; birth = now birth }; edges = record { left = now left; right = now right; parent = now parent; child = now child }; sites = record { position = now position; ancestral = now ancestral }; muts = record { site = now site; node = now node; derived = now derived } }) (now samples) (record { kept = now kept; nodes = nodes; places = now places; sample = now sample; by-left = now bl; by-right = now br; store = record { left = now fl; right = now fr; parent = now fp; child = now fc; stood = now stood; count = edges }; moves = record { row = now mrow; low = now mlow; count = mutations } }) × Ranked (now birth) (now «by_birth») × RoomForLists edges mutations (record { left = now «out_left»; right = now «out_right»; parent = now «out_parent»; child = now «out_child» }) (record { site = now «out_site»; node = now «out_node»; derived = now «out_derived» }) ⌝ }
+    ensures { λ _. ⌜ ListsWritten (cleaned stands len (record { nodes = record { time = now (time .entry); birth = now (birth .entry) }; edges = record { left = now (left .entry); right = now (right .entry); parent = now (parent .entry); child = now (child .entry) }; sites = record { position = now (position .entry); ancestral = now (ancestral .entry) }; muts = record { site = now (site .entry); node = now (node .entry); derived = now (derived .entry) } }) (now (samples .entry))) (record { left = now («out_left» .entry); right = now («out_right» .entry); parent = now («out_parent» .entry); child = now («out_child» .entry) }) (record { left = now («out_left» .exit); right = now («out_right» .exit); parent = now («out_parent» .exit); child = now («out_child» .exit) }) (record { site = now («out_site» .entry); node = now («out_node» .entry); derived = now («out_derived» .entry) }) (record { site = now («out_site» .exit); node = now («out_node» .exit); derived = now («out_derived» .exit) }) ⌝ }
+{
+    fill::fill(
+        len,
+        time,
+        sample,
+        left,
+        right,
+        parent,
+        child,
+        bl,
+        br,
+        position,
+        site,
+        node,
+        fl,
+        fr,
+        fp,
+        fc,
+        mrow,
+        mlow,
+        edges,
+        mutations,
+        stood,
+        out_left,
+        out_right,
+        out_parent,
+        out_child,
+        out_site,
+        out_node,
+    );
+    finish::finish_edges(
+        time,
+        birth,
+        by_birth,
+        places,
+        edges,
+        out_left,
+        out_right,
+        out_parent,
+        out_child,
+        bl,
+        br,
+    );
+    finish::finish_mutations(
+        places,
+        site,
+        derived,
+        mutations,
+        out_site,
+        out_node,
+        out_derived,
+    );
+}
+
+// All five tables.
+fn write_all(
+    len: u32,
+    time: &[u32],
+    birth: &[u32],
+    left: &[u32],
+    right: &[u32],
+    parent: &[u32],
+    child: &[u32],
+    position: &[u32],
+    ancestral: &[u8],
+    site: &[u32],
+    node: &[u32],
+    derived: &[u8],
+    samples: &[u32],
+    by_birth: &[u32],
+    kept: &[u32],
+    places: &[u32],
+    sample: &[u8],
+    bl: &mut [u32],
+    br: &mut [u32],
+    fl: &[u32],
+    fr: &[u32],
+    fp: &[u32],
+    fc: &[u32],
+    stood: &mut [u8],
+    mrow: &[u32],
+    mlow: &[u32],
     nodes: usize,
     edges: usize,
     mutations: usize,
@@ -118,29 +189,45 @@ fn write_all(
     out_derived: &mut [u8],
     out_map: &mut [u32],
 )
-    requires { ⌜ Safe (record { time = now time; birth = now birth; position = now position; ancestral = now ancestral; site = now site; derived = now derived }) (record { kept = now kept; left = now left; right = now right; parent = now parent; child = now child; order = now order; places = now places; lows = now lows; moved = now moved; nodes = nodes; edges = edges; mutations = mutations }) × RoomFor (record { nodes = nodes; edges = edges; sites = length (now position); mutations = mutations; rows = length (now time) }) (lentBy (record { nodes = record { time = now «out_time»; birth = now «out_birth» }; edges = record { left = now «out_left»; right = now «out_right»; parent = now «out_parent»; child = now «out_child» }; sites = record { position = now «out_position»; ancestral = now «out_ancestral» }; muts = record { site = now «out_site»; node = now «out_node»; derived = now «out_derived» } }) (now «out_map»)) ⌝ }
-    ensures { λ _. ⌜ Written (record { time = now (time .entry); birth = now (birth .entry); position = now (position .entry); ancestral = now (ancestral .entry); site = now (site .entry); derived = now (derived .entry) }) (record { kept = now (kept .entry); left = now (left .entry); right = now (right .entry); parent = now (parent .entry); child = now (child .entry); order = now (order .entry); places = now (places .entry); lows = now (lows .entry); moved = now (moved .entry); nodes = nodes; edges = edges; mutations = mutations }) (record { nodes = record { time = now («out_time» .entry); birth = now («out_birth» .entry) }; edges = record { left = now («out_left» .entry); right = now («out_right» .entry); parent = now («out_parent» .entry); child = now («out_child» .entry) }; sites = record { position = now («out_position» .entry); ancestral = now («out_ancestral» .entry) }; muts = record { site = now («out_site» .entry); node = now («out_node» .entry); derived = now («out_derived» .entry) } }) (now («out_map» .entry)) (record { nodes = record { time = now («out_time» .exit); birth = now («out_birth» .exit) }; edges = record { left = now («out_left» .exit); right = now («out_right» .exit); parent = now («out_parent» .exit); child = now («out_child» .exit) }; sites = record { position = now («out_position» .exit); ancestral = now («out_ancestral» .exit) }; muts = record { site = now («out_site» .exit); node = now («out_node» .exit); derived = now («out_derived» .exit) } }) (now («out_map» .exit)) ⌝ }
+    requires { ⌜ Ready len (record { nodes = record { time = now time; birth = now birth }; edges = record { left = now left; right = now right; parent = now parent; child = now child }; sites = record { position = now position; ancestral = now ancestral }; muts = record { site = now site; node = now node; derived = now derived } }) (now samples) (record { kept = now kept; nodes = nodes; places = now places; sample = now sample; by-left = now bl; by-right = now br; store = record { left = now fl; right = now fr; parent = now fp; child = now fc; stood = now stood; count = edges }; moves = record { row = now mrow; low = now mlow; count = mutations } }) × Ranked (now birth) (now «by_birth») × RoomFor (record { nodes = nodes; edges = edges; sites = length (now position); mutations = mutations; rows = length (now time) }) (lentBy (record { nodes = record { time = now «out_time»; birth = now «out_birth» }; edges = record { left = now «out_left»; right = now «out_right»; parent = now «out_parent»; child = now «out_child» }; sites = record { position = now «out_position»; ancestral = now «out_ancestral» }; muts = record { site = now «out_site»; node = now «out_node»; derived = now «out_derived» } }) (now «out_map»)) ⌝ }
+    ensures { λ _. ⌜ ((record { nodes = record { time = now («out_time» .exit); birth = now («out_birth» .exit) }; edges = record { left = now («out_left» .exit); right = now («out_right» .exit); parent = now («out_parent» .exit); child = now («out_child» .exit) }; sites = record { position = now («out_position» .exit); ancestral = now («out_ancestral» .exit) }; muts = record { site = now («out_site» .exit); node = now («out_node» .exit); derived = now («out_derived» .exit) } }) ≡ putAll (cleaned stands len (record { nodes = record { time = now (time .entry); birth = now (birth .entry) }; edges = record { left = now (left .entry); right = now (right .entry); parent = now (parent .entry); child = now (child .entry) }; sites = record { position = now (position .entry); ancestral = now (ancestral .entry) }; muts = record { site = now (site .entry); node = now (node .entry); derived = now (derived .entry) } }) (now (samples .entry))) (record { nodes = record { time = now («out_time» .entry); birth = now («out_birth» .entry) }; edges = record { left = now («out_left» .entry); right = now («out_right» .entry); parent = now («out_parent» .entry); child = now («out_child» .entry) }; sites = record { position = now («out_position» .entry); ancestral = now («out_ancestral» .entry) }; muts = record { site = now («out_site» .entry); node = now («out_node» .entry); derived = now («out_derived» .entry) } })) × (now («out_map» .exit) ≡ put (nodeMap stands len (record { nodes = record { time = now (time .entry); birth = now (birth .entry) }; edges = record { left = now (left .entry); right = now (right .entry); parent = now (parent .entry); child = now (child .entry) }; sites = record { position = now (position .entry); ancestral = now (ancestral .entry) }; muts = record { site = now (site .entry); node = now (node .entry); derived = now (derived .entry) } }) (now (samples .entry))) (now («out_map» .entry))) ⌝ }
 {
     write_nodes(time, birth, kept, nodes, out_time, out_birth);
-    write_edges(
+    write_sites(position, ancestral, out_position, out_ancestral);
+    write_lists(
+        len,
+        time,
+        birth,
         left,
         right,
         parent,
         child,
-        order,
+        position,
+        ancestral,
+        site,
+        node,
+        derived,
+        samples,
+        by_birth,
+        kept,
+        places,
+        sample,
+        bl,
+        br,
+        fl,
+        fr,
+        fp,
+        fc,
+        stood,
+        mrow,
+        mlow,
+        nodes,
         edges,
+        mutations,
         out_left,
         out_right,
         out_parent,
         out_child,
-    );
-    write_sites(position, ancestral, out_position, out_ancestral);
-    write_mutations(
-        site,
-        lows,
-        derived,
-        moved,
-        mutations,
         out_site,
         out_node,
         out_derived,
@@ -150,21 +237,32 @@ fn write_all(
 
 // 13 with nothing written, or 0 with the result at the front of each column; the caller's block takes so many cells.
 pub fn store(
+    len: u32,
     time: &[u32],
     birth: &[u32],
-    position: &[u32],
-    ancestral: &[u8],
-    site: &[u32],
-    derived: &[u8],
-    kept: &[u32],
     left: &[u32],
     right: &[u32],
     parent: &[u32],
     child: &[u32],
-    order: &[u32],
+    position: &[u32],
+    ancestral: &[u8],
+    site: &[u32],
+    node: &[u32],
+    derived: &[u8],
+    samples: &[u32],
+    by_birth: &[u32],
+    kept: &[u32],
     places: &[u32],
-    lows: &[u32],
-    moved: &[u32],
+    sample: &[u8],
+    bl: &mut [u32],
+    br: &mut [u32],
+    fl: &[u32],
+    fr: &[u32],
+    fp: &[u32],
+    fc: &[u32],
+    stood: &mut [u8],
+    mrow: &[u32],
+    mlow: &[u32],
     nodes: usize,
     edges: usize,
     mutations: usize,
@@ -182,8 +280,10 @@ pub fn store(
     out_map: &mut [u32],
     cells: usize,
 ) -> Tabled
-    requires { ⌜ Safe (record { time = now time; birth = now birth; position = now position; ancestral = now ancestral; site = now site; derived = now derived }) (record { kept = now kept; left = now left; right = now right; parent = now parent; child = now child; order = now order; places = now places; lows = now lows; moved = now moved; nodes = nodes; edges = edges; mutations = mutations }) ⌝ }
-    ensures { λ r. ⌜ ((new : Tables) (newMap : List ℕ) → Held (record { time = now (time .entry); birth = now (birth .entry); position = now (position .entry); ancestral = now (ancestral .entry); site = now (site .entry); derived = now (derived .entry) }) (record { kept = now (kept .entry); left = now (left .entry); right = now (right .entry); parent = now (parent .entry); child = now (child .entry); order = now (order .entry); places = now (places .entry); lows = now (lows .entry); moved = now (moved .entry); nodes = nodes; edges = edges; mutations = mutations }) new newMap → outcomeOf r (record { nodes = record { time = now («out_time» .exit); birth = now («out_birth» .exit) }; edges = record { left = now («out_left» .exit); right = now («out_right» .exit); parent = now («out_parent» .exit); child = now («out_child» .exit) }; sites = record { position = now («out_position» .exit); ancestral = now («out_ancestral» .exit) }; muts = record { site = now («out_site» .exit); node = now («out_node» .exit); derived = now («out_derived» .exit) } }) (now («out_map» .exit)) ≡ cleanEnd (cleanFit limits new newMap (record { nodes = record { time = now («out_time» .entry); birth = now («out_birth» .entry) }; edges = record { left = now («out_left» .entry); right = now («out_right» .entry); parent = now («out_parent» .entry); child = now («out_child» .entry) }; sites = record { position = now («out_position» .entry); ancestral = now («out_ancestral» .entry) }; muts = record { site = now («out_site» .entry); node = now («out_node» .entry); derived = now («out_derived» .entry) } }) (now («out_map» .entry)) cells) new newMap (record { nodes = record { time = now («out_time» .entry); birth = now («out_birth» .entry) }; edges = record { left = now («out_left» .entry); right = now («out_right» .entry); parent = now («out_parent» .entry); child = now («out_child» .entry) }; sites = record { position = now («out_position» .entry); ancestral = now («out_ancestral» .entry) }; muts = record { site = now («out_site» .entry); node = now («out_node» .entry); derived = now («out_derived» .entry) } }) (now («out_map» .entry))) ⌝ }
+    requires { ⌜ Ready len (record { nodes = record { time = now time; birth = now birth }; edges = record { left = now left; right = now right; parent = now parent; child = now child }; sites = record { position = now position; ancestral = now ancestral }; muts = record { site = now site; node = now node; derived = now derived } }) (now samples) (record { kept = now kept; nodes = nodes; places = now places; sample = now sample; by-left = now bl; by-right = now br; store = record { left = now fl; right = now fr; parent = now fp; child = now fc; stood = now stood; count = edges }; moves = record { row = now mrow; low = now mlow; count = mutations } }) × Ranked (now birth) (now «by_birth») ⌝ }
+    ensures { λ r. ⌜
+        outcomeOf r (record { nodes = record { time = now («out_time» .exit); birth = now («out_birth» .exit) }; edges = record { left = now («out_left» .exit); right = now («out_right» .exit); parent = now («out_parent» .exit); child = now («out_child» .exit) }; sites = record { position = now («out_position» .exit); ancestral = now («out_ancestral» .exit) }; muts = record { site = now («out_site» .exit); node = now («out_node» .exit); derived = now («out_derived» .exit) } }) (now («out_map» .exit))
+        ≡ afterCheck len (record { nodes = record { time = now (time .entry); birth = now (birth .entry) }; edges = record { left = now (left .entry); right = now (right .entry); parent = now (parent .entry); child = now (child .entry) }; sites = record { position = now (position .entry); ancestral = now (ancestral .entry) }; muts = record { site = now (site .entry); node = now (node .entry); derived = now (derived .entry) } }) (now (samples .entry)) (record { nodes = record { time = now («out_time» .entry); birth = now («out_birth» .entry) }; edges = record { left = now («out_left» .entry); right = now («out_right» .entry); parent = now («out_parent» .entry); child = now («out_child» .entry) }; sites = record { position = now («out_position» .entry); ancestral = now («out_ancestral» .entry) }; muts = record { site = now («out_site» .entry); node = now («out_node» .entry); derived = now («out_derived» .entry) } }) (now («out_map» .entry)) cells ⌝ }
 {
     let t = writing::within::no_room_within(
         nodes,
@@ -209,21 +309,32 @@ pub fn store(
         return Tabled::Refused(Refusal::NoRoom(t));
     }
     write_all(
+        len,
         time,
         birth,
-        position,
-        ancestral,
-        site,
-        derived,
-        kept,
         left,
         right,
         parent,
         child,
-        order,
+        position,
+        ancestral,
+        site,
+        node,
+        derived,
+        samples,
+        by_birth,
+        kept,
         places,
-        lows,
-        moved,
+        sample,
+        bl,
+        br,
+        fl,
+        fr,
+        fp,
+        fc,
+        stood,
+        mrow,
+        mlow,
         nodes,
         edges,
         mutations,

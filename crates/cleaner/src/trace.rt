@@ -1,24 +1,21 @@
 // The samples' rows and the sweep, with its working columns on the stack.
 ghost use mathlib.Core.Path.{_≡_};
 ghost use mathlib.Core.List.{List};
-ghost use Prim.Native.Nat.{ℕ, _<_, _≤_};
+ghost use Prim.Native.Nat.{ℕ, _≤_};
 ghost use lib.ListN.{length, take};
 ghost use Rattle.meaning.specs.Rows.{nodeTable, edgeTable};
-ghost use Rattle.meaning.specs.Answer.{limits};
 ghost use Rattle.order.specs.Ranks.{Ranked};
 ghost use Rattle.byrows.specs.Rows.{sampleRows};
 ghost use Rattle.tree.specs.TreeAt.{Flags};
+ghost use Rattle.runs.specs.Runs.{Room};
 ghost use Rattle.sweep.specs.Sweeping.{Done};
-ghost use Rattle.cleaner.specs.Tracing.{Passed, Traced};
 ghost use Rattle.cleaner.specs.Sweeping.{Sweepable, Roomy};
-use meaning::EdgeTable;
+ghost use Rattle.cleaner.specs.Tracing.{Passed, Traced};
 use meaning::NodeTable;
+use sweep::Tally;
 
-// The most rows whose output parent a change can alter: three for each end of an edge.
-const TOUCHED: usize = 24576;
-
-// The sweep with columns of its own for the tree and the open runs.
-fn swept(
+// The sweep with columns of its own for the tree, the list of touched rows and the open runs: one cell for each node in each.
+pub fn swept(
     len: u32,
     time: &[u32],
     sample: &[u8],
@@ -36,17 +33,19 @@ fn swept(
     fp: &mut [u32],
     fc: &mut [u32],
     stood: &mut [u8],
-    lows: &mut [u32],
-) -> usize
-    requires { ⌜ Sweepable len (record { time = now time; sample = now sample; left = now left; right = now right; parent = now parent; child = now child; by-left = now bl; by-right = now br; position = now position; site = now site; node = now node }) (record { left = now fl; right = now fr; parent = now fp; child = now fc; stood = now stood; count = 0 }) (now lows) ⌝ }
-    ensures { λ r. ⌜ ((Q : List ℕ) → Flags (now (sample .entry)) Q (length (now (time .entry))) → Done len (record { time = now (time .entry); sample = now (sample .entry); left = now (left .entry); right = now (right .entry); parent = now (parent .entry); child = now (child .entry); by-left = now (bl .entry); by-right = now (br .entry); position = now (position .entry); site = now (site .entry); node = now (node .entry) }) Q (now (lows .entry)) (record { left = now (fl .exit); right = now (fr .exit); parent = now (fp .exit); child = now (fc .exit); stood = now (stood .exit); count = r }) (now (lows .exit))) ⌝ }
+    mrow: &mut [u32],
+    mlow: &mut [u32],
+) -> Tally
+    requires { ⌜ Sweepable len (record { time = now time; sample = now sample; left = now left; right = now right; parent = now parent; child = now child; by-left = now bl; by-right = now br; position = now position; site = now site; node = now node }) × Room (length (now time)) (record { left = now fl; right = now fr; parent = now fp; child = now fc; stood = now stood; count = 0 }) × (length (now mlow) ≡ length (now mrow)) ⌝ }
+    ensures { λ r. ⌜ ((Q : List ℕ) → Flags (now (sample .entry)) Q (length (now (time .entry))) → Done len (record { time = now (time .entry); sample = now (sample .entry); left = now (left .entry); right = now (right .entry); parent = now (parent .entry); child = now (child .entry); by-left = now (bl .entry); by-right = now (br .entry); position = now (position .entry); site = now (site .entry); node = now (node .entry) }) Q (record { left = now (fl .entry); right = now (fr .entry); parent = now (fp .entry); child = now (fc .entry); stood = now (stood .entry); count = 0 }) (record { row = now (mrow .entry); low = now (mlow .entry); count = 0 }) (record { left = now (fl .exit); right = now (fr .exit); parent = now (fp .exit); child = now (fc .exit); stood = now (stood .exit); count = r .edges }) (record { row = now (mrow .exit); low = now (mlow .exit); count = r .mutations })) ⌝ }
 {
     let n = time.len();
     let mut par = [0u32; NodeTable::MOST];
     let mut count = [0u32; NodeTable::MOST];
     let mut sum = [0u32; NodeTable::MOST];
     let mut up = [0u32; NodeTable::MOST];
-    let mut touched = [0u32; TOUCHED];
+    let mut touched = [0u32; NodeTable::MOST];
+    let mut listed = [0u8; NodeTable::MOST];
     let mut begun = [0u32; NodeTable::MOST];
     let mut above = [0u32; NodeTable::MOST];
     sweep::sweep(
@@ -67,6 +66,7 @@ fn swept(
         &mut sum[..n],
         &mut up[..n],
         &mut touched,
+        &mut listed[..n],
         &mut begun[..n],
         &mut above[..n],
         fl,
@@ -74,11 +74,12 @@ fn swept(
         fp,
         fc,
         stood,
-        lows,
+        mrow,
+        mlow,
     )
 }
 
-// The samples' rows, marks on them, the finished edges, marks on their parents, and the mutations' nearest standing rows.
+// The samples' rows, marks on them, both orders of the edges, and a sweep into lists that may be too short: it counts what it finds.
 pub fn trace(
     len: u32,
     time: &[u32],
@@ -91,31 +92,31 @@ pub fn trace(
     site: &[u32],
     node: &[u32],
     samples: &[u32],
+    by_birth: &[u32],
     kept: &mut [u32],
     sample: &mut [u8],
+    bl: &mut [u32],
+    br: &mut [u32],
     fl: &mut [u32],
     fr: &mut [u32],
     fp: &mut [u32],
     fc: &mut [u32],
     stood: &mut [u8],
-    lows: &mut [u32],
-    by_birth: &[u32],
-) -> usize
+    mrow: &mut [u32],
+    mlow: &mut [u32],
+) -> Tally
     requires { ⌜
         Passed len
         (nodeTable (now time) (now birth))
-        (edgeTable (now left) (now right) (now parent) (now child)) (now position) (now site) (now node) (now samples) × Roomy (length (now time)) (length (now samples)) (length (now site)) (now kept) (now sample) (record { left = now fl; right = now fr; parent = now fp; child = now fc; stood = now stood; count = 0 }) (now lows) × Ranked (now birth) (now «by_birth») ⌝ }
+        (edgeTable (now left) (now right) (now parent) (now child)) (now position) (now site) (now node) (now samples) × Roomy (length (now time)) (length (now left)) (length (now samples)) (now kept) (now sample) (now bl) (now br) (record { left = now fl; right = now fr; parent = now fp; child = now fc; stood = now stood; count = 0 }) (record { row = now mrow; low = now mlow; count = 0 }) × Ranked (now birth) (now «by_birth») ⌝ }
     ensures { λ r. ⌜
-        Traced len (length (now (birth .entry)))
-        (edgeTable (now (left .entry)) (now (right .entry)) (now (parent .entry)) (now (child .entry))) (now (position .entry)) (now (site .entry)) (now (node .entry)) (sampleRows (now (birth .entry)) (now (samples .entry))) (now (kept .entry)) (now (kept .exit)) (now (sample .exit)) (record { left = now (fl .exit); right = now (fr .exit); parent = now (fp .exit); child = now (fc .exit); stood = take (length (now (birth .entry))) (now (stood .exit)); count = r }) (now (lows .entry)) (now (lows .exit)) ⌝ }
+        Traced len (record { time = now (time .entry); sample = take (length (now (time .entry))) (now (sample .exit)); left = now (left .entry); right = now (right .entry); parent = now (parent .entry); child = now (child .entry); by-left = take (length (now (left .entry))) (now (bl .exit)); by-right = take (length (now (left .entry))) (now (br .exit)); position = now (position .entry); site = now (site .entry); node = now (node .entry) }) (sampleRows (now (birth .entry)) (now (samples .entry))) (now (kept .entry)) (now (kept .exit)) (record { left = now (fl .entry); right = now (fr .entry); parent = now (fp .entry); child = now (fc .entry); stood = take (length (now (time .entry))) (now (stood .entry)); count = 0 }) (record { left = now (fl .exit); right = now (fr .exit); parent = now (fp .exit); child = now (fc .exit); stood = take (length (now (time .entry))) (now (stood .exit)); count = r .edges }) (record { row = now (mrow .entry); low = now (mlow .entry); count = 0 }) (record { row = now (mrow .exit); low = now (mlow .exit); count = r .mutations }) ⌝ }
 {
     let n = time.len();
     let e = left.len();
-    let mut bl = [0u32; EdgeTable::MOST];
-    let mut br = [0u32; EdgeTable::MOST];
     keeping::sample_rows(birth, by_birth, samples, kept, &mut sample[..n]);
-    crate::rank::ranked_down(left, left, left, left, &mut bl[..e]);
-    crate::rank::ranked(right, right, right, right, &mut br[..e]);
+    crate::rank::ranked_down(left, &mut bl[..e]);
+    crate::rank::ranked(right, &mut br[..e]);
     swept(
         len,
         time,
@@ -134,6 +135,7 @@ pub fn trace(
         fp,
         fc,
         &mut stood[..n],
-        lows,
+        mrow,
+        mlow,
     )
 }

@@ -1,8 +1,8 @@
--- The state of the tree's columns between two edges, and the rows whose nearest standing row above was written.
+-- The state of the tree's columns between two edges.
 use mathlib.Core.Path.{_≡_}
 use mathlib.Core.Bool.{true, false}
 use mathlib.Core.List.{List}
-use Prim.Native.Nat.{ℕ, _+_, _<_, _≤_}
+use Prim.Native.Nat.{ℕ, _<_}
 use lib.ListN.{length, getD}
 use Rattle.mend.specs.Right.{live, stands, Right, Shape, Grows}
 use Rattle.mend.specs.Line.{parOf, opt, Low, Over}
@@ -29,15 +29,6 @@ pub data Heir (S P C : List ℕ) (s z : ℕ) : Type 0 where
   no-row : s ≡ 4294967295 → z ≡ 4294967295 → Heir S P C s z
   stood : (s ≡ 4294967295 → ⊥) → stands S C s ≡ true → z ≡ 4294967295 → Heir S P C s z
   below : (s ≡ 4294967295 → ⊥) → stands S C s ≡ false → z < length P → Low (parOf P) (stands S C) (live S C) z s → Heir S P C s z
-
--- X lists from k to r, at most m of them, rows below n, among them every one whose cell differs between U and U'
-pub record Noted (n m : ℕ) (U U' X X' : List ℕ) (k r : ℕ) : Type 0 where
-  pub more : k ≤ r
-  pub few : r ≤ k + m
-  pub long : length X' ≡ length X
-  pub old : (i : ℕ) → i < k → getD X' i 0 ≡ getD X i 0
-  pub rows : (i : ℕ) → k ≤ i → i < r → getD X' i 0 < n
-  pub listed : (v : ℕ) → (getD U' v 0 ≡ getD U v 0 → ⊥) → (i : ℕ) × (k ≤ i) × (i < r) × (getD X' i 0 ≡ v)
 
 -- an edge from c to p may be put in: c has no parent yet, and p is older
 pub record Enters (T P : List ℕ) (c p : ℕ) : Type 0 where

@@ -3,3 +3,4 @@ pub mod Right
 pub mod Line
 pub mod Looks
 pub mod Kept
+pub mod Listing

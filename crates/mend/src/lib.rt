@@ -135,13 +135,16 @@ fn nearest(time: &[u32], sample: &[u8], parent: &[u32], count: &[u32], q: u32) -
     }
 }
 
-// The first live row at or above p, where p is a row or none.
+// The first live row at or above p, where p is a row or none; most often it is p itself.
 pub fn stop(time: &[u32], sample: &[u8], parent: &[u32], count: &[u32], p: u32) -> u32
     requires { ⌜ (length (now sample) ≡ length (now parent)) × (length (now count) ≡ length (now parent)) × (length (now parent) ≤ none) × Grows (now time) (now parent) × ((p ≡ none → ⊥) → p < length (now parent)) ⌝ }
     ensures { λ r. ⌜ Stop (now (parent .entry)) (live (now (sample .entry)) (now (count .entry))) r p ⌝ }
 {
     if p == NONE {
         return NONE;
+    }
+    if alive(sample, count, p) {
+        return p;
     }
     nearest(time, sample, parent, count, p)
 }

@@ -1,2 +1,3 @@
 -- Laws of the mutations placed so far.
 pub mod Giving
+pub mod Taking

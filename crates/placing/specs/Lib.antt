@@ -1,2 +1,3 @@
 -- Mutations and their nearest standing rows.
 pub mod Placing
+pub mod Movers

@@ -15,8 +15,10 @@ use Rattle.laws.specs.Bools.{eq?}
 use Rattle.laws.specs.Facts.{Any, Cov}
 use Rattle.bridge.specs.Parents.{no-row}
 use Rattle.history.specs.Lists.{all-to, append-nil}
-use Rattle.runs.specs.Runs.{OpenRuns, Store, Room, Opened, Behind, Kept, Swept, Collected, Stored}
+use Rattle.runs.specs.Runs.{OpenRuns, Store, Room, Opened, Behind, Kept, Swept, Collected, Stored, Onward}
+use Rattle.runs.specs.Onward.{onward-none, onward-then}
 use Rattle.runs.specs.Promises.{leaves, Pushed, RowClosed, Closed}
+use Rattle.runs.proofs.Storing.{room-kept}
 use Rattle.runs.proofs.Turning.{opened, turned}
 
 -- ---- one row
@@ -30,10 +32,10 @@ unfolding leaves
 leaves-edge x c s o n = rw (ne-eqb o no-row n, leaves)
 
 pub row-none : (x c : ℕ) (O : OpenRuns) (D : Store) → at (O .par) c ≡ no-row → RowClosed x c O D D
-row-none x c O D e = record { closes = λ n F s. rw (leaves-none x c (at (O .left) c) (at (O .par) c) e, append-nil F) s }
+row-none x c O D e = record { onward = onward-none D; closes = λ n F s. rw (leaves-none x c (at (O .left) c) (at (O .par) c) e, append-nil F) s }
 
 pub row-pushed : (x c : ℕ) (O : OpenRuns) (D D' : Store) → (at (O .par) c ≡ no-row → ⊥) → Pushed (record { left = at (O .left) c; right = x; parent = at (O .par) c; child = c }) D D' → RowClosed x c O D D'
-row-pushed x c O D D' v p = record { closes = λ n F s. rw (leaves-edge x c (at (O .left) c) (at (O .par) c) v) (p .one-more n F s) }
+row-pushed x c O D D' v p = record { onward = p .onward; closes = λ n F s. rw (leaves-edge x c (at (O .left) c) (at (O .par) c) v) (p .one-more n F s) }
 
 -- what storing the finished edge asks
 pub close-ready : (c : ℕ) (O : OpenRuns) (D : Store) → Opened (length (O .par)) O → Room (length (O .par)) D → c < length (O .par) → (at (O .par) c ≡ no-row → ⊥) → Room (length (D .stood)) D × (at (O .par) c < length (D .stood))
@@ -70,7 +72,7 @@ shut-none v f = fun-ext (λ d. shut-from v 0 f d (omega arith))
 -- the open runs of the first c rows are finished: from D₀ the columns came to D
 pub record Closing (L : ℕ) (O : OpenRuns) (D₀ : Store) (c : ℕ) (D : Store) : Type 0 where
   pub room : Room (length (O .par)) D
-  pub long : length (D .left) ≡ length (D₀ .left)
+  pub onward : Onward D₀ D
   pub closes : (U : ℕ → Par) (F : List Edge) → Swept U (length (O .par)) L L F (at (O .left)) (at (O .par)) → Stored (length (O .par)) F D₀ → (F' : List Edge) × Kept U (length (O .par)) L L F' (shut L c (at (O .left))) (shut no-row c (at (O .par))) × Stored (length (O .par)) F' D
 
 module _ (L : ℕ) (O : OpenRuns) (D₀ : Store) where
@@ -80,7 +82,7 @@ module _ (L : ℕ) (O : OpenRuns) (D₀ : Store) where
   pub closing-start : Room n D₀ → Closing L O D₀ 0 D₀
   closing-start r = record {
     room = r;
-    long = refl;
+    onward = onward-none D₀;
     closes = λ U F s t. (F, rw (shut-none L (at (O .left)), shut-none no-row (at (O .par))) (s .kept), t);
   }
 
@@ -129,10 +131,10 @@ module _ (L : ℕ) (O : OpenRuns) (D₀ : Store) where
         wide : (at (O .par) c ≡ no-row → ⊥) → lefts c < L
         wide z = ⊎-elim (λ (l : at (O .left) c < L). omega (arith, now-left)) (λ (q : (L ≡ 0) × (at (O .par) c ≡ no-row)). absurd (z (q .1))) b
 
-  pub closing-next : (c : ℕ) (D D' : Store) → Opened n O → c < n → Closing L O D₀ c D → RowClosed L c O D D' → Room n D' → length (D' .left) ≡ length (D .left) → Closing L O D₀ (c + 1) D'
-  closing-next c D D' o cn w s room long = record {
-    room = room;
-    long = long ∙ w .long;
+  pub closing-next : (c : ℕ) (D D' : Store) → Opened n O → c < n → Closing L O D₀ c D → RowClosed L c O D D' → length (D' .stood) ≡ length (D .stood) → Closing L O D₀ (c + 1) D'
+  closing-next c D D' o cn w s long = record {
+    room = room-kept n D D' (w .room) (s .onward) long;
+    onward = onward-then D₀ D D' (w .onward) (s .onward);
     closes = λ U F a t.
         let r : _ = w .closes U F a t in
         (r .0 ++ leaves L c (at (O .left) c) (at (O .par) c), closed-row o c cn U (r .0) (a .behind c cn) (r .1), s .closes n (r .0) (r .2));
@@ -140,6 +142,7 @@ module _ (L : ℕ) (O : OpenRuns) (D₀ : Store) where
 
   pub closing-end : (c : ℕ) (D : Store) → n ≤ c → Closing L O D₀ c D → Closed L O D₀ D
   closing-end c D l w = record {
+    onward = w .onward;
     closes = λ U F a t.
         let r : _ = w .closes U F a t in
         (r .0, collected U (r .0) (r .1), r .2);
@@ -149,7 +152,7 @@ module _ (L : ℕ) (O : OpenRuns) (D₀ : Store) where
       collected U F k = record {
         inside = all-to (λ e f. (f .parent-row, f .child-row)) (k .edges);
         whole = all-to (λ e f. f .whole) (k .edges);
-        once = k .once;
+        in-turn = k .in-turn;
         covers = λ y d p a b e. ⊎-elim
             (λ (q : Any (Cov y d p) F). q)
             (λ (q : shut L c (at (O .left)) d ≤ y). absurd (omega (arith, shut-below L c (at (O .left)) d (omega arith))))

@@ -12,6 +12,7 @@ use Rattle.meaning.specs.Forest.{Par}
 use Rattle.laws.specs.Bools.{eq?}
 use Rattle.bridge.specs.Parents.{no-row, code}
 use Rattle.runs.specs.Runs.{OpenRuns, Store, Room, Opened, Behind, Settling}
+use Rattle.runs.specs.Onward.{onward-none}
 use Rattle.runs.specs.Promises.{Pushed, Ready, RowSettled}
 use Rattle.runs.proofs.Turning.{opened, turned}
 
@@ -34,6 +35,7 @@ module _ (x c : ℕ) (up : List ℕ) (O : OpenRuns) (D : Store) (ready : Ready u
     runs = ready .runs;
     here = e;
     others = λ d q. refl;
+    onward = onward-none D;
     settles = λ U L F s u t. (F, s, t);
   }
 
@@ -100,6 +102,7 @@ module _ (x c : ℕ) (up : List ℕ) (O : OpenRuns) (D : Store) (ready : Ready u
       runs = renewed-opened;
       here = here-par;
       others = other-par;
+      onward = onward-none D;
       settles = λ U L F s u t. (F, kept-opened U L F s u z, t);
     }
 
@@ -109,5 +112,6 @@ module _ (x c : ℕ) (up : List ℕ) (O : OpenRuns) (D : Store) (ready : Ready u
       runs = renewed-opened;
       here = here-par;
       others = other-par;
+      onward = p .onward;
       settles = λ U L F s u t. (F ++ e ∷ [], rw q (kept-turned U L F s u v), p .one-more (length up) F t);
     }

@@ -14,7 +14,7 @@ use Rattle.bridge.specs.Parents.{no-row, code}
 use Rattle.history.specs.Lists.{any-left, any-right, all-app, all-to}
 use Rattle.encoding.specs.Runs.{Longest}
 use Rattle.encoding.specs.Edges.{is-of, of-is}
-use Rattle.runs.specs.Runs.{Run, Finished, Apart, Once, none-twice, once-more, Kept, Behind}
+use Rattle.runs.specs.Runs.{Run, Finished, Follows, InTurn, none-yet, one-more, Kept, Behind}
 
 -- ---- cells and parents
 
@@ -36,13 +36,9 @@ not-code o p n = not-true (is o p) (λ h. n (code-some (is-of o p h)))
 
 -- ---- one edge more
 
-apart-all : (e : Edge) (l : List Edge) → All (λ d. Apart d e) l → All (Apart e) l
-apart-all e [] done = done
-apart-all e (d ∷ l) (also a h) = also (λ p q. a (sym p) (sym q)) (apart-all e l h)
-
-pub once-snoc : (l : List Edge) (e : Edge) → Once l → All (λ d. Apart d e) l → Once (l ++ e ∷ [])
-once-snoc [] e none-twice done = once-more done none-twice
-once-snoc (d ∷ l) e (once-more a o) (also b h) = once-more (all-app a (also b done)) (once-snoc l e o h)
+pub in-turn-snoc : (l : List Edge) (e : Edge) → InTurn l → All (λ d. Follows d e) l → InTurn (l ++ e ∷ [])
+in-turn-snoc [] e none-yet done = one-more done none-yet
+in-turn-snoc (d ∷ l) e (one-more a o) (also b h) = one-more (all-app a (also b done)) (in-turn-snoc l e o h)
 
 module _ (U : ℕ → Par) (n L x : ℕ) (F : List Edge) (left par : ℕ → ℕ) (k : Kept U n L x F left par) (c : ℕ) (cn : c < n)
     (left' par' : ℕ → ℕ) (same-left : (d : ℕ) → (d ≡ c → ⊥) → left' d ≡ left d) (same-par : (d : ℕ) → (d ≡ c → ⊥) → par' d ≡ par d)
@@ -87,7 +83,7 @@ module _ (U : ℕ → Par) (n L x : ℕ) (F : List Edge) (left par : ℕ → ℕ
     named = k .named;
     run = run-after;
     edges = all-to finished-after (k .edges);
-    once = k .once;
+    in-turn = k .in-turn;
     covers = λ y d p a l e. ⊎-elim
         (λ (q : d ≡ c). ⊎-elim
         (λ (u : Any (Cov y d p) F). inl u)
@@ -114,8 +110,9 @@ module _ (U : ℕ → Par) (n L x : ℕ) (F : List Edge) (left par : ℕ → ℕ
     ending-finished : Finished U n L left' ending
     ending-finished = record { parent-row = par-row; child-row = cn; whole = ending-whole; ended = omega (arith, here) }
 
-    ending-apart : (d : Edge) → Finished U n L left d → Apart d ending
-    ending-apart d f p q = let r : left (d .child) ≡ left c = ap left p in omega (arith, f .ended, f .whole .wide)
+    -- an edge finished before ends where or before the run begins
+    ending-follows : (d : Edge) → Finished U n L left d → Follows d ending
+    ending-follows d f p = let r : left (d .child) ≡ left c = ap left p in omega (arith, f .ended, f .whole .wide)
 
     pub turned : Kept U n L x (F ++ ending ∷ []) left' par'
     turned = record {
@@ -123,7 +120,7 @@ module _ (U : ℕ → Par) (n L x : ℕ) (F : List Edge) (left par : ℕ → ℕ
       named = k .named;
       run = run-after;
       edges = all-app (all-to finished-after (k .edges)) (also ending-finished done);
-      once = once-snoc F ending (k .once) (all-to ending-apart (k .edges));
+      in-turn = in-turn-snoc F ending (k .in-turn) (all-to ending-follows (k .edges));
       covers = λ y d p a l e. ⊎-elim
           (λ (q : d ≡ c). ⊎-elim
           (λ (u : Any (Cov y d p) F). inl (any-left (ending ∷ []) u))

@@ -18,7 +18,7 @@ use Rattle.encoding.specs.Edges.{is-of}
 use Rattle.byrows.specs.Rows.{sampleRows, upRow, rowKey}
 use Rattle.byrows.specs.Ground.{Ground, once}
 use Rattle.byrows.specs.Kept.{EdgeRows}
-use Rattle.runs.specs.Runs.{Parent, Apart, Once, none-twice, once-more, Collected}
+use Rattle.runs.specs.Runs.{Parent, Follows, InTurn, none-yet, one-more, Collected}
 
 -- ---- a sort
 
@@ -65,26 +65,26 @@ abbrev pub byRowKey : NodeColumns → Edge → Edge → Bool
 byRowKey N d e = lex (rowKey N d) (rowKey N e)
 
 module _ (N : NodeColumns) (n : ℕ) (own : (i j : ℕ) → i < n → j < n → at (N .birth) i ≡ at (N .birth) j → i ≡ j) where
-  -- two edges that differ in child or left differ in key
-  apart-keys : (d e : Edge) → d .child < n → e .child < n → Apart d e → byRowKey N d e ≡ false → byRowKey N e d ≡ true
+  -- two edges of which, where they are of one child, one begins to the right of the other differ in key
+  apart-keys : (d e : Edge) → d .child < n → e .child < n → Follows d e → byRowKey N d e ≡ false → byRowKey N e d ≡ true
   unfolding rowKey
   apart-keys d e p q a h = lex-apart (rowKey N d) (rowKey N e) refl
-      (λ z. a (own (d .child) (e .child) p q (ap (λ (l : List ℕ). at l 2) z)) (ap (λ (l : List ℕ). at l 3) z)) h
+      (λ z. let r : d .left < e .left = a (own (d .child) (e .child) p q (ap (λ (l : List ℕ). at l 2) z)) in let k : d .left ≡ e .left = ap (λ (l : List ℕ). at l 3) z in omega arith) h
 
-  all-apart : (e : Edge) (l : List Edge) → e .child < n → All (λ (d : Edge). (d .parent < n) × (d .child < n)) l → All (Apart e) l → All (λ d. byRowKey N e d ≡ false → byRowKey N d e ≡ true) l
+  all-apart : (e : Edge) (l : List Edge) → e .child < n → All (λ (d : Edge). (d .parent < n) × (d .child < n)) l → All (Follows e) l → All (λ d. byRowKey N e d ≡ false → byRowKey N d e ≡ true) l
   all-apart e [] p done done = done
   all-apart e (d ∷ l) p (also i h) (also a k) = also (apart-keys e d p (i .1) a) (all-apart e l p h k)
 
-  pub sort-ascending : (F : List Edge) → All (λ (e : Edge). (e .parent < n) × (e .child < n)) F → Once F → Ascending (byRowKey N) (sort (byRowKey N) F)
+  pub sort-ascending : (F : List Edge) → All (λ (e : Edge). (e .parent < n) × (e .child < n)) F → InTurn F → Ascending (byRowKey N) (sort (byRowKey N) F)
   unfolding sort
-  sort-ascending [] done none-twice = empty
-  sort-ascending (e ∷ l) (also i h) (once-more a o) = insert-ascending (byRowKey N) (λ c d f. lex-trans (rowKey N c) (rowKey N d) (rowKey N f)) e (sort (byRowKey N) l) (all-sort (byRowKey N) l (all-apart e l (i .1) h a)) (sort-ascending l h o)
+  sort-ascending [] done none-yet = empty
+  sort-ascending (e ∷ l) (also i h) (one-more a o) = insert-ascending (byRowKey N) (λ c d f. lex-trans (rowKey N c) (rowKey N d) (rowKey N f)) e (sort (byRowKey N) l) (all-sort (byRowKey N) l (all-apart e l (i .1) h a)) (sort-ascending l h o)
 
 -- the edges that a sweep over the output parents collects, sorted by key, are the edges of the result
 pub edge-rows : (m : Limits) (L : ℕ) (T : Tables) (S : List ℕ) (g : Ground m L T S) (F : List Edge) → Collected (upRow (T .edges) (length (T .nodes .birth)) (sampleRows (T .nodes .birth) S)) (length (T .nodes .birth)) L F → EdgeRows m L T S g (sort (byRowKey (T .nodes)) F)
 edge-rows m L T S g F k = record {
   inside = all-sort (byRowKey (T .nodes)) F (k .inside);
-  ascending = sort-ascending (T .nodes) (length (T .nodes .birth)) (once m L T S g) F (k .inside) (k .once);
+  ascending = sort-ascending (T .nodes) (length (T .nodes .birth)) (once m L T S g) F (k .inside) (k .in-turn);
   whole = all-sort (byRowKey (T .nodes)) F (k .whole);
   covers = λ x u p a b e. sort-any (byRowKey (T .nodes)) F (k .covers x u p a b e);
 }

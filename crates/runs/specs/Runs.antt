@@ -8,6 +8,7 @@ use lib.ListN.{length, getD}
 use Rattle.meaning.specs.Words.{at}
 use Rattle.meaning.specs.Rows.{Edge}
 use Rattle.meaning.specs.Forest.{Par, is}
+use Rattle.meaning.specs.Answer.{limits}
 use Rattle.laws.specs.Facts.{Any, All, Cov}
 use Rattle.bridge.specs.Parents.{no-row, code}
 use Rattle.encoding.specs.Runs.{Longest}
@@ -65,11 +66,27 @@ Parent F p = Any (λ (e : Edge). e .parent ≡ p) F
 abbrev pub Mark : List Edge → ℕ → ℕ → Type 0
 Mark F p m = ((m ≡ 1) × Parent F p) ⊎ ((m ≡ 0) × (Parent F p → ⊥))
 
--- the count stops at one more than fit, and cells are written while they last
+-- the count stops at one more than the limit, and cells are written while they last
 pub record Stored (n : ℕ) (F : List Edge) (D : Store) : Type 0 where
-  pub counted : D .count ≡ min (length F) (suc (length (D .left)))
-  pub cells : (i : ℕ) → i < length F → i < length (D .left) → Cell D i (getD F i no-edge)
+  pub counted : D .count ≡ min (length F) (suc (limits .edges))
+  pub cells : (i : ℕ) → i < D .count → i < length (D .left) → Cell D i (getD F i no-edge)
   pub marks : (p : ℕ) → p < n → Mark F p (at (D .stood) p)
+
+-- cell i of the columns is as it was
+pub record Same (D D' : Store) (i : ℕ) : Type 0 where
+  pub left : at (D' .left) i ≡ at (D .left) i
+  pub right : at (D' .right) i ≡ at (D .right) i
+  pub parent : at (D' .parent) i ≡ at (D .parent) i
+  pub child : at (D' .child) i ≡ at (D .child) i
+
+-- more edges are stored, and no cell from the count on is written
+pub record Onward (D D' : Store) : Type 0 where
+  pub more : D .count ≤ D' .count
+  pub lefts : length (D' .left) ≡ length (D .left)
+  pub rights : length (D' .right) ≡ length (D .right)
+  pub parents : length (D' .parent) ≡ length (D .parent)
+  pub children : length (D' .child) ≡ length (D .child)
+  pub rest : (i : ℕ) → D' .count ≤ i → Same D D' i
 
 -- ---- what open runs and finished edges say of U, the output parent at each position
 
@@ -86,14 +103,14 @@ pub record Finished (U : ℕ → Par) (n L : ℕ) (left : ℕ → ℕ) (e : Edge
   pub whole : Longest L (λ y. is (U y (e .child)) (e .parent)) e
   pub ended : e .right ≤ left (e .child)
 
--- two edges differ in child or left
-abbrev pub Apart : Edge → Edge → Type 0
-Apart d e = d .child ≡ e .child → d .left ≡ e .left → ⊥
+-- where d and e are of one child, e begins to the right of where d begins
+abbrev pub Follows : Edge → Edge → Type 0
+Follows d e = d .child ≡ e .child → d .left < e .left
 
--- each two edges of a list differ in child or left
-pub data Once : List Edge → Type 0 where
-  none-twice : Once []
-  once-more : {e : Edge} {l : List Edge} → All (Apart e) l → Once l → Once (e ∷ l)
+-- each child's edges stand in a list from left to right
+pub data InTurn : List Edge → Type 0 where
+  none-yet : InTurn []
+  one-more : {e : Edge} {l : List Edge} → All (Follows e) l → InTurn l → InTurn (e ∷ l)
 
 -- open runs (left and par by row) and finished edges F up to x: every output parent below x is in one of them
 pub record Kept (U : ℕ → Par) (n L x : ℕ) (F : List Edge) (left par : ℕ → ℕ) : Type 0 where
@@ -101,7 +118,7 @@ pub record Kept (U : ℕ → Par) (n L x : ℕ) (F : List Edge) (left par : ℕ 
   pub named : (y c p : ℕ) → c < n → U y c ≡ some p → p ≡ no-row → ⊥
   pub run : (c : ℕ) → c < n → Run U x c (left c) (par c)
   pub edges : All (Finished U n L left) F
-  pub once : Once F
+  pub in-turn : InTurn F
   pub covers : (y c p : ℕ) → y < x → c < n → U y c ≡ some p → Any (Cov y c p) F ⊎ (left c ≤ y)
 
 -- the run has a position behind it, or nothing was begun yet
@@ -127,5 +144,5 @@ pub record Settled (U : ℕ → Par) (n L x : ℕ) (F : List Edge) (left par : �
 pub record Collected (U : ℕ → Par) (n L : ℕ) (F : List Edge) : Type 0 where
   pub inside : All (λ (e : Edge). (e .parent < n) × (e .child < n)) F
   pub whole : All (λ (e : Edge). Longest L (λ y. is (U y (e .child)) (e .parent)) e) F
-  pub once : Once F
+  pub in-turn : InTurn F
   pub covers : (y c p : ℕ) → y < L → c < n → U y c ≡ some p → Any (Cov y c p) F

@@ -1,4 +1,4 @@
--- The sweep begins with nothing and goes on from a change to the next; what the store holds at its beginning and its end.
+-- The sweep begins with nothing and goes on from a change to the next; what the store holds at its beginning.
 use mathlib.Core.Path.{_≡_, refl, sym, ap, _∙_}
 use mathlib.Core.Bool.{Bool, true, false}
 use mathlib.Core.List.{List, []}
@@ -7,16 +7,13 @@ use mathlib.Core.Logic.{_⊎_, inl, inr, ⊎-elim}
 use Prim.Native.Nat.{ℕ, _<_, _≤_}
 use native.Mathlib.Omega.{arith}
 use lib.Dec.{ltb}
-use lib.ListN.{length, getD}
-use lib.Seq.{ext-getD}
 use borrow.Author.Tests.{ltb-true, ltb-false}
-use Rattle.meaning.specs.Words.{at, rows}
+use Rattle.meaning.specs.Words.{at}
 use Rattle.meaning.specs.Rows.{Edge}
 use Rattle.meaning.specs.Forest.{Par}
-use Rattle.laws.specs.Counting.{length-rows, get-rows}
 use Rattle.laws.specs.Facts.{done}
 use Rattle.bridge.specs.Parents.{no-row, code}
-use Rattle.runs.specs.Runs.{Store, no-edge, Cell, Stored, none-twice, Swept, Settled}
+use Rattle.runs.specs.Runs.{Store, Stored, none-yet, Swept, Settled}
 
 -- before the first position nothing is finished and no run is of a parent
 pub swept-start : (U : ℕ → Par) (n L : ℕ) (left par : ℕ → ℕ) → ((y c p : ℕ) → c < n → U y c ≡ some p → p ≡ no-row → ⊥) → ((c : ℕ) → c < n → left c ≡ 0) → ((c : ℕ) → c < n → par c ≡ no-row) → Swept U n L 0 [] left par
@@ -30,7 +27,7 @@ swept-start U n L left par named zeros nones = record {
       early = λ k y q e. k (nones c l);
     };
     edges = done;
-    once = none-twice;
+    in-turn = none-yet;
     covers = λ y c p l k e. absurd (omega arith);
   };
   behind = λ c l. inr (refl, nones c l);
@@ -59,7 +56,7 @@ swept-on U n L x next F left par s l k still = record {
       early = s .kept .run c i .early;
     };
     edges = s .kept .edges;
-    once = s .kept .once;
+    in-turn = s .kept .in-turn;
     covers = λ y c p a i e. ⊎-elim
         (λ (q : y < x). s .kept .covers y c p q i e)
         (λ (q : x ≤ y). inr (omega (arith, s .kept .run c i .begun)))
@@ -74,21 +71,6 @@ swept-on U n L x next F left par s l k still = record {
 pub stored-start : (n : ℕ) (D : Store) → D .count ≡ 0 → ((p : ℕ) → p < n → at (D .stood) p ≡ 0) → Stored n [] D
 stored-start n D z bare = record {
   counted = omega (arith, z);
-  cells = λ i l m. absurd (omega arith);
+  cells = λ i l m. absurd (omega (arith, z));
   marks = λ p l. inr (bare p l, λ a. elim a [ ]);
 }
-
--- the edge in cell i
-abbrev pub cellEdge : Store → ℕ → Edge
-cellEdge D i = record { left = at (D .left) i; right = at (D .right) i; parent = at (D .parent) i; child = at (D .child) i }
-
--- where all fit, the cells below the count are the finished edges
-pub stored-rows : (n : ℕ) (F : List Edge) (D : Store) → Stored n F D → D .count ≤ length (D .left) → rows (cellEdge D) (D .count) ≡ F
-stored-rows n F D s l =
-    let q : D .count ≡ length F = omega (arith, s .counted) in
-    ext-getD no-edge (rows (cellEdge D) (D .count)) F (length-rows (cellEdge D) (D .count) ∙ q) (λ i k.
-    let j : i < D .count = omega (arith, length-rows (cellEdge D) (D .count)) in
-    get-rows (cellEdge D) no-edge (D .count) i j ∙ same i (s .cells i (omega arith) (omega arith)))
-  where
-    same : (i : ℕ) → Cell D i (getD F i no-edge) → cellEdge D i ≡ getD F i no-edge
-    same i c = λ t. record { left = c .left t; right = c .right t; parent = c .parent t; child = c .child t }

@@ -1,11 +1,12 @@
 // The runs of the sweep: open runs are cut at each change, and their fronts are the finished edges.
 ghost use mathlib.Core.Path.{_≡_};
 ghost use Prim.Native.Nat.{ℕ, _<_, _≤_};
-ghost use lib.ListN.{length};
+ghost use lib.ListN.{length, set};
 ghost use Rattle.meaning.specs.Words.{at};
 ghost use Rattle.runs.specs.Segments.{cutAt};
 ghost use Rattle.runs.specs.Runs.{Room, Opened};
-ghost use Rattle.runs.specs.Promises.{edgeOf, Pushed, Ready, RowSettled, ChangeSettled, RowClosed, Closed};
+ghost use Rattle.runs.specs.Promises.{edgeOf, Pushed, Ready, RowSettled, ChangeSettled, Bared, RowClosed, Closed};
+use meaning::EdgeTable;
 
 // 01: "ancestral segments: a left, a right and an output row". Here the row is the parent row of a run.
 #[repr(C)]
@@ -51,7 +52,29 @@ impl RunColumn {
     pub const NONE: u32 = 4294967295;
 }
 
-// One more finished edge: its parent is marked, and it is written while there is room. The count stops at one more than fit.
+// Writes a finished edge to cell k where the columns have one: a sweep counts on past the cells that it is lent.
+fn write(
+    seg: Segment,
+    child: u32,
+    fl: &mut [u32],
+    fr: &mut [u32],
+    fp: &mut [u32],
+    fc: &mut [u32],
+    k: usize,
+)
+    requires { ⌜ (length (now fr) ≡ length (now fl)) × (length (now fp) ≡ length (now fl)) × (length (now fc) ≡ length (now fl)) ⌝ }
+    ensures { λ _. ⌜ (now (fl .exit) ≡ set (now (fl .entry)) k (seg .left)) × (now (fr .exit) ≡ set (now (fr .entry)) k (seg .right)) × (now (fp .exit) ≡ set (now (fp .entry)) k (seg .row)) × (now (fc .exit) ≡ set (now (fc .entry)) k child) ⌝ }
+{
+    if fl.len() <= k {
+        return;
+    }
+    fl[k] = seg.left;
+    fr[k] = seg.right;
+    fp[k] = seg.row;
+    fc[k] = child;
+}
+
+// One more finished edge: its parent is marked, and it is written while there are cells. The count stops at one more than the limit.
 fn push(
     seg: Segment,
     child: u32,
@@ -65,16 +88,12 @@ fn push(
     requires { ⌜ Room (length (now stood)) (record { left = now fl; right = now fr; parent = now fp; child = now fc; stood = now stood; count = count }) × (seg .row < length (now stood)) ⌝ }
     ensures { λ r. ⌜ Pushed (edgeOf seg child) (record { left = now (fl .entry); right = now (fr .entry); parent = now (fp .entry); child = now (fc .entry); stood = now (stood .entry); count = count }) (record { left = now (fl .exit); right = now (fr .exit); parent = now (fp .exit); child = now (fc .exit); stood = now (stood .exit); count = r }) ⌝ }
 {
-    let row = seg.row;
-    stood[row as usize] = 1;
-    if count < fl.len() {
-        fl[count] = seg.left;
-        fr[count] = seg.right;
-        fp[count] = row;
-        fc[count] = child;
-        return count + 1;
+    stood[seg.row as usize] = 1;
+    if EdgeTable::MOST < count {
+        return count;
     }
-    fl.len() + 1
+    write(seg, child, fl, fr, fp, fc, count);
+    count + 1
 }
 
 // Deals with one row at x: where its output parent is another than that of its open run, the run is cut at x, its front is
@@ -118,11 +137,13 @@ fn settle_row(
     push(front, c, fl, fr, fp, fc, stood, count)
 }
 
-// Deals with the change at x: the first nt rows of touched are those whose output parent may be another. The answer is the new count.
+// Deals with the change at x: the first nt rows of touched are those whose output parent may be another; their marks are taken away. The
+// answer is the new count.
 pub fn settle(
     x: u32,
     len: u32,
     touched: &[u32],
+    listed: &mut [u8],
     nt: usize,
     up: &[u32],
     open_left: &mut [u32],
@@ -134,13 +155,14 @@ pub fn settle(
     stood: &mut [u8],
     count: usize,
 ) -> usize
-    requires { ⌜ Ready (now up) (record { left = now open_left; par = now open_par }) (record { left = now fl; right = now fr; parent = now fp; child = now fc; stood = now stood; count = count }) × (nt ≤ length (now touched)) × ((i : ℕ) → i < nt → at (now touched) i < length (now up)) ⌝ }
-    ensures { λ r. ⌜ ChangeSettled x (now (up .entry)) (now (touched .entry)) nt (record { left = now (open_left .entry); par = now (open_par .entry) }) (record { left = now (fl .entry); right = now (fr .entry); parent = now (fp .entry); child = now (fc .entry); stood = now (stood .entry); count = count }) (record { left = now (open_left .exit); par = now (open_par .exit) }) (record { left = now (fl .exit); right = now (fr .exit); parent = now (fp .exit); child = now (fc .exit); stood = now (stood .exit); count = r }) ⌝ }
+    requires { ⌜ Ready (now up) (record { left = now open_left; par = now open_par }) (record { left = now fl; right = now fr; parent = now fp; child = now fc; stood = now stood; count = count }) × (nt ≤ length (now touched)) × ((i : ℕ) → i < nt → at (now touched) i < length (now up)) × (length (now listed) ≡ length (now up)) ⌝ }
+    ensures { λ r. ⌜ ChangeSettled x (now (up .entry)) (now (touched .entry)) nt (record { left = now (open_left .entry); par = now (open_par .entry) }) (record { left = now (fl .entry); right = now (fr .entry); parent = now (fp .entry); child = now (fc .entry); stood = now (stood .entry); count = count }) (record { left = now (open_left .exit); par = now (open_par .exit) }) (record { left = now (fl .exit); right = now (fr .exit); parent = now (fp .exit); child = now (fc .exit); stood = now (stood .exit); count = r }) × Bared (length (now (up .entry))) (now (touched .entry)) nt (now (listed .entry)) (now (listed .exit)) ⌝ }
 {
     let mut made = count;
     let mut i = 0;
     while i < nt {
         let c = touched[i];
+        listed[c as usize] = 0;
         made = settle_row(
             x,
             len,
@@ -189,7 +211,7 @@ fn close_row(
     push(open, c, fl, fr, fp, fc, stood, count)
 }
 
-// Finishes every open run at the end of the chromosome. The answer is the number of finished edges, or one more than fit.
+// Finishes every open run at the end of the chromosome. The answer is the number of finished edges, or one more than the limit.
 pub fn close(
     len: u32,
     open_left: &[u32],

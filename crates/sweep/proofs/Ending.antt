@@ -1,38 +1,37 @@
 -- At the end of the chromosome every run is finished and every mutation is placed.
-use mathlib.Core.Path.{_≡_, refl, sym, _∙_}
-use mathlib.Core.List.{List, _++_}
+use mathlib.Core.Path.{_≡_}
+use mathlib.Core.List.{List}
 use mathlib.Core.Logic.{⊎-elim}
-use Prim.Native.Nat.{ℕ, _+_, _-_, _<_, _≤_}
+use Prim.Native.Nat.{ℕ, _<_, _≤_}
 use native.Mathlib.Omega.{arith}
-use lib.ListN.{length, drop, length-append, length-drop, List·getD-append}
-use lib.Seq.{ext-getD, getD-append-add, getD-drop}
-use Rattle.meaning.specs.Words.{at, rows}
+use lib.ListN.{length}
+use Rattle.meaning.specs.Words.{at}
 use Rattle.meaning.specs.Rows.{Edge}
-use Rattle.meaning.specs.Answer.{put}
-use Rattle.laws.specs.Counting.{length-rows, get-rows}
 use Rattle.tree.specs.TreeAt.{Flags}
 use Rattle.mend.proofs.Reading.{lt?}
+use Rattle.placing.specs.Placing.{Moves}
+use Rattle.placing.specs.Movers.{beyond-none, beyond-then}
 use Rattle.runs.specs.Runs.{Store, Room, Opened}
 use Rattle.runs.specs.Promises.{Closed}
+use Rattle.runs.specs.Onward.{onward-none, onward-then}
 use Rattle.runs.specs.Sized.{opened-own, room-own, collected-after}
-use Rattle.sweep.specs.Columns.{Input, State, lowCell}
+use Rattle.sweep.specs.Columns.{Input, State}
 use Rattle.sweep.specs.Sweeping.{Steady, Going, Came, Done}
 
 -- ---- steps one after the other
 
-pub steady-on : {L : ℕ} {I : Input} {t k x : ℕ} {Z : State} → t ≡ k → Steady L I t x Z → Steady L I k x Z
+pub steady-on : {L : ℕ} {I : Input} {t k : ℕ} {K : List ℕ} {x : ℕ} {Z : State} → t ≡ k → Steady L I t K x Z → Steady L I k K x Z
 steady-on e st = rw e at st
 
-pub came-none : {L : ℕ} {I : Input} {t x : ℕ} {Z : State} → Steady L I t x Z → Came L I t x Z x Z
-came-none st = record { steady = st; later = record { long = refl; more = omega arith; rest = λ i l. refl }; going = λ Q fl F g. (F, g) }
+pub came-none : {L : ℕ} {I : Input} {t : ℕ} {K : List ℕ} {x : ℕ} {Z : State} → Steady L I t K x Z → Came L I t K x Z K x Z
+came-none {Z = Z} st = record { steady = st; later = record { onward = onward-none (Z .store); beyond = beyond-none (Z .moves) }; going = λ Q fl F g. (F, g) }
 
-pub came-then : {L : ℕ} {I : Input} {t k x y z : ℕ} {A B C : State} → k ≡ t → Came L I t x A y B → Came L I k y B z C → Came L I t x A z C
-came-then e a b = record {
+pub came-then : {L : ℕ} {I : Input} {t k : ℕ} {K K' K'' : List ℕ} {x y z : ℕ} {A B C : State} → k ≡ t → Came L I t K x A K' y B → Came L I k K' y B K'' z C → Came L I t K x A K'' z C
+came-then {A = A} {B} {C} e a b = record {
   steady = steady-on e (b .steady);
   later = record {
-    long = b .later .long ∙ a .later .long;
-    more = omega (arith, a .later .more, b .later .more);
-    rest = λ i l. b .later .rest i l ∙ a .later .rest i (omega (arith, b .later .more));
+    onward = onward-then (A .store) (B .store) (C .store) (a .later .onward) (b .later .onward);
+    beyond = beyond-then (a .later .beyond) (b .later .beyond);
   };
   going = λ Q fl F g. let r : _ = a .going Q fl F g in b .going Q fl (r .0) (r .1);
 }
@@ -40,51 +39,49 @@ came-then e a b = record {
 -- ---- the end
 
 -- what finishing the open runs asks
-pub close-ready : {L : ℕ} {I : Input} {t x : ℕ} {Z : State} → Steady L I t x Z → Opened (length (Z .runs .par)) (Z .runs) × Room (length (Z .runs .par)) (Z .store) × (length (Z .runs .par) ≤ 4294967295)
+pub close-ready : {L : ℕ} {I : Input} {t : ℕ} {K : List ℕ} {x : ℕ} {Z : State} → Steady L I t K x Z → Opened (length (Z .runs .par)) (Z .runs) × Room (length (Z .runs .par)) (Z .store) × (length (Z .runs .par) ≤ 4294967295)
 close-ready {I = I} {Z = Z} st = (
   opened-own (length (I .time)) (Z .runs) (Z .store) (Z .store) (st .runs),
   room-own (length (I .time)) (Z .runs) (Z .store) (Z .store) (st .runs) (st .room),
   omega (arith, st .runs .par-long, st .tree .kept .mended .shape .times, st .tree .kept .mended .shape .rows),
 )
 
--- k cells made by f, and those of M past them
-put-cells : (f : ℕ → ℕ) (k : ℕ) (M M' : List ℕ) → length M' ≡ length M → k ≤ length M → ((i : ℕ) → i < k → at M' i ≡ f i) → ((i : ℕ) → k ≤ i → at M' i ≡ at M i) → M' ≡ put (rows f k) M
-unfolding put
-put-cells f k M M' e h new old = ext-getD 0 M' (rows f k ++ drop (length (rows f k)) M)
-    (omega (arith, length-append (rows f k) (drop (length (rows f k)) M), length-drop (length (rows f k)) M, length-rows f k))
-    (λ i l. ⊎-elim (front i) (back i) (lt? i k))
-  where
-    long : length (rows f k) ≡ k
-    long = length-rows f k
-
-    front : (i : ℕ) → i < k → at M' i ≡ at (rows f k ++ drop (length (rows f k)) M) i
-    front i l = new i l ∙ sym (get-rows f 0 k i l) ∙ sym (List·getD-append (rows f k) (drop (length (rows f k)) M) 0 i (omega (arith, long)))
-
-    back : (i : ℕ) → k ≤ i → at M' i ≡ at (rows f k ++ drop (length (rows f k)) M) i
-    back i l =
-        let q : length (rows f k) + (i - k) ≡ i = omega (arith, long) in
-        let a : at (rows f k ++ drop (length (rows f k)) M) (length (rows f k) + (i - k)) ≡ at (drop (length (rows f k)) M) (i - k) = getD-append-add (rows f k) (drop (length (rows f k)) M) (i - k) 0 in
-        let b : at (drop (length (rows f k)) M) (i - k) ≡ at M (length (rows f k) + (i - k)) = getD-drop (length (rows f k)) M (i - k) 0 in
-        old i l ∙ sym (rw q at (a ∙ b))
-
-module _ {L : ℕ} {I : Input} {t x : ℕ} {Z Z' : State} (ca : Came L I t 0 Z x Z') (over : L ≤ x) (z : Z .placed ≡ 0) where
+module _ {L : ℕ} {I : Input} {t : ℕ} {K K' : List ℕ} {x : ℕ} {Z Z' : State} (ca : Came L I t K 0 Z K' x Z') (over : L ≤ x) where
   at-end : x ≡ L
   at-end = omega (arith, ca .steady .inside)
 
   -- no mutation lies past the end
-  all-placed : (i : ℕ) → i < length (I .site) → i < Z' .placed
-  all-placed i l = ⊎-elim
-      (λ (q : i < Z' .placed). q)
-      (λ (q : Z' .placed ≤ i). absurd (omega (arith, ca .steady .ahead i q l, ca .steady .sites .inside (at (I .site) i) (ca .steady .sites .site-row i l))))
-      (lt? i (Z' .placed))
+  all-placed : Z' .placed ≡ length (I .site)
+  all-placed = ⊎-elim
+      (λ (q : Z' .placed < length (I .site)). absurd (omega (arith, ca .steady .ahead (Z' .placed) (omega arith) q, ca .steady .sites .inside (at (I .site) (Z' .placed)) (ca .steady .sites .site-row (Z' .placed) q))))
+      (λ (q : length (I .site) ≤ Z' .placed). omega (arith, ca .steady .most))
+      (lt? (Z' .placed) (length (I .site)))
 
-  pub done : {D : Store} → Closed L (Z' .runs) (Z' .store) D → (Q : List ℕ) → Flags (I .sample) Q (length (I .time)) → (F : List Edge) → Going L I 0 Q F Z → Done L I Q (Z .lows) D (Z' .lows)
+  pub done : {D : Store} → Closed L (Z' .runs) (Z' .store) D → (Q : List ℕ) → Flags (I .sample) Q (length (I .time)) → (F : List Edge) → Going L I 0 Q F Z → Done L I Q (Z .store) (Z .moves) D (Z' .moves)
   done {D} cl Q fl F g =
       let r : _ = ca .going Q fl F g in
       let s : Going L I L Q (r .0) Z' = rw at-end at (r .1) in
       record {
         edges = collected-after (length (I .time)) (Z' .runs) (Z' .store) D (ca .steady .runs) L cl _ (r .0) (s .swept) (s .stored);
-        lows = put-cells (lowCell I Q) (length (I .site)) (Z .lows) (Z' .lows) (ca .later .long) (omega (arith, ca .steady .cells, ca .later .long))
-            (λ i l. r .1 .given i (all-placed i l))
-            (λ i l. ca .later .rest i (omega (arith, ca .steady .most)));
+        onward = onward-then (Z .store) (Z' .store) D (ca .later .onward) (cl .onward);
+        held = rw all-placed at (s .held);
+        beyond = ca .later .beyond;
       }
+
+-- which rows were marked before the marks were cleared is of no account
+pub done-cleared : {L : ℕ} {I : Input} {Q l r p c s : List ℕ} (t : List ℕ) {k : ℕ} {W₀ W : Moves} {D : Store} → Done L I Q (record { left = l; right = r; parent = p; child = c; stood = t; count = k }) W₀ D W → Done L I Q (record { left = l; right = r; parent = p; child = c; stood = s; count = k }) W₀ D W
+done-cleared t d =
+    let o : _ = d .onward in
+    record {
+      edges = d .edges;
+      onward = record {
+        more = o .more;
+        lefts = o .lefts;
+        rights = o .rights;
+        parents = o .parents;
+        children = o .children;
+        rest = λ i h. let e : _ = o .rest i h in record { left = e .left; right = e .right; parent = e .parent; child = e .child };
+      };
+      held = d .held;
+      beyond = d .beyond;
+    }

@@ -1,4 +1,4 @@
--- The sweep starts with no edge, no finished edge, no open run and no mutation placed.
+-- The sweep starts with no edge, no finished edge, no open run, no mark and no mutation placed.
 use mathlib.Core.Path.{_≡_, refl, sym, _∙_}
 use mathlib.Core.Bool.{Bool, true, false}
 use mathlib.Core.List.{List, []}
@@ -18,9 +18,10 @@ use Rattle.tree.specs.Sweep.{seen, Plan}
 use Rattle.mend.proofs.Reading.{opt-some, no-parent}
 use Rattle.tree.proofs.Seeing.{not-begun}
 use Rattle.tree.proofs.Sweeping.{plan-on}
-use Rattle.runs.specs.Runs.{Room}
+use Rattle.runs.specs.Runs.{Store, Room}
 use Rattle.runs.specs.Sweep.{swept-start, stored-start}
-use Rattle.sweep.specs.Columns.{Input, State}
+use Rattle.placing.specs.Movers.{held-start}
+use Rattle.sweep.specs.Columns.{Input, State, lowCell}
 use Rattle.sweep.specs.Sweeping.{Asked, Steady, Going}
 use Rattle.sweep.proofs.Inside.{up-row-inside}
 
@@ -44,15 +45,26 @@ bare {S = S} {P} {C} {U = U} {bl = bl} {br} sw c l = go (stands S C c) refl
 
 -- ---- the start
 
-module _ {L : ℕ} {I : Input} {t : ℕ} {A : State} (Z : State) (ask : Asked L I t A)
+-- columns that keep their lengths keep their room
+pub room-cleared : (n : ℕ) (D D' : Store) → Room n D → length (D' .left) ≡ length (D .left) → length (D' .right) ≡ length (D .right) → length (D' .parent) ≡ length (D .parent) → length (D' .child) ≡ length (D .child) → length (D' .stood) ≡ length (D .stood) → Room n D'
+room-cleared n D D' r a b c d e = record {
+  right-long = b ∙ r .right-long ∙ sym a;
+  parent-long = c ∙ r .parent-long ∙ sym a;
+  child-long = d ∙ r .child-long ∙ sym a;
+  stood-long = e ∙ r .stood-long;
+}
+
+module _ {L : ℕ} {I : Input} {t : ℕ} {K₀ K : List ℕ} {A : State} (Z : State) (ask : Asked L I t K₀ A)
     (sw : (l r pa ch bl br : List ℕ) → Plan (I .time) l r pa ch bl br (length (Z .parents)) → tree.Swept (I .time) (I .sample) (Z .parents) (Z .counts) (Z .sums) (Z .ups) l r pa ch bl br 0 0 0)
     (long : length (Z .parents) ≡ length (A .parents))
     (lefts : Filled (Z .runs .left) (length (A .runs .left)) 0)
     (pars : Filled (Z .runs .par) (length (A .runs .par)) no-row)
+    (marks : Filled K (length K₀) 0)
     (stood : Filled (Z .store .stood) (length (A .store .stood)) 0)
     (room : Room (length (I .time)) (Z .store))
-    (lows : length (Z .lows) ≡ length (A .lows))
-    (z : Z .begun ≡ 0) (w : Z .ended ≡ 0) (p : Z .placed ≡ 0) where
+    (mrows : length (Z .moves .row) ≡ length (A .moves .row))
+    (mlows : length (Z .moves .low) ≡ length (A .moves .low))
+    (z : Z .begun ≡ 0) (w : Z .ended ≡ 0) (p : Z .placed ≡ 0) (k : Z .moves .count ≡ 0) where
   abbrev n : ℕ
   n = length (I .time)
 
@@ -62,14 +74,18 @@ module _ {L : ℕ} {I : Input} {t : ℕ} {A : State} (Z : State) (ask : Asked L 
   none-open : (c : ℕ) → c < n → at (Z .runs .par) c ≡ no-row
   none-open c l = pars .cells c (omega (arith, ask .par-long))
 
-  pub steady-start : Steady L I t 0 Z
+  pub steady-start : Steady L I t K 0 Z
   steady-start = record {
     tree = rw (z, w) start;
     sites = ask .sites;
     listed = ask .listed;
+    marks-long = marks .long ∙ ask .marks-long;
+    bare = λ v l. marks .cells v (omega (arith, ask .marks-long));
     runs = record { left-long = lefts .long ∙ ask .left-long; par-long = pars .long ∙ ask .par-long; rows = λ c l h. absurd (h (none-open c l)) };
     room = room;
-    cells = omega (arith, ask .cells);
+    numbered = ask .numbered;
+    even = mlows ∙ ask .even ∙ sym mrows;
+    few = omega arith;
     most = omega arith;
     ahead = λ i a l. omega arith;
     inside = omega arith;
@@ -83,5 +99,5 @@ module _ {L : ℕ} {I : Input} {t : ℕ} {A : State} (Z : State) (ask : Asked L 
         none-open;
     stored = stored-start n (Z .store) e (λ q l. stood .cells q (omega (arith, room .stood-long, stood .long)));
     current = λ c l. none-open c l ∙ sym (bare start c (omega (arith, start .kept .mended .shape .times)));
-    given = λ i l. absurd (omega arith);
+    held = rw p (held-start (lowCell I Q) (Z .moves) k);
   }

@@ -4,7 +4,7 @@ use mathlib.Core.Bool.{Bool, true, false}
 use mathlib.Core.List.{List}
 use mathlib.Core.Option.{Option, some}
 use mathlib.Core.Logic.{⊎-elim}
-use Prim.Native.Nat.{ℕ, _+_, _-_, _*_, _<_, _≤_}
+use Prim.Native.Nat.{ℕ, _+_, _<_, _≤_}
 use native.Mathlib.Omega.{arith}
 use lib.ListN.{length, getD}
 use Rattle.meaning.specs.Words.{at}
@@ -12,7 +12,8 @@ use Rattle.laws.specs.Bools.{eq?, none-some, some-inj}
 use Rattle.bridge.specs.Parents.{no-row}
 use Rattle.mend.specs.Right.{stands}
 use Rattle.mend.specs.Line.{parOf, Over, root, hit, on}
-use Rattle.mend.specs.Kept.{Kept, Noted}
+use Rattle.mend.specs.Kept.{Kept}
+use Rattle.mend.specs.Listing.{Listed, Noted, listed-start, listed-few}
 use Rattle.tree.specs.Sweep as tree
 use Rattle.mend.proofs.Reading.{par-of, opt-some}
 use Rattle.runs.specs.Runs.{Named}
@@ -49,7 +50,13 @@ position-rises {L} {I} s j i h l = ⊎-elim
 
 -- ---- what the calls of a step ask
 
-module _ {L : ℕ} {I : Input} {t x : ℕ} {Z : State} (st : Steady L I t x Z) where
+module _ {L : ℕ} {I : Input} {t : ℕ} {K : List ℕ} {x : ℕ} {Z : State} (st : Steady L I t K x Z) where
+  ups-before : length (Z .ups) ≡ length (I .time)
+  ups-before = st .tree .kept .up .long ∙ sym (st .tree .kept .mended .shape .times)
+
+  pub advance-ready : {X : List ℕ} → t ≡ length X → Listed (length (Z .ups)) 0 X K
+  advance-ready {X} e = rw ups-before (listed-start (length (I .time)) X K (omega (arith, st .listed)) (st .marks-long) (st .bare))
+
   module _ {P C M U : List ℕ} {i j : ℕ} (sw : tree.Swept (I .time) (I .sample) P C M U (I .left) (I .right) (I .parent) (I .child) (I .by-left) (I .by-right) i j (x + 1)) where
     long : length (I .time) ≡ length P
     long = sw .kept .mended .shape .times
@@ -57,20 +64,21 @@ module _ {L : ℕ} {I : Input} {t x : ℕ} {Z : State} (st : Steady L I t x Z) w
     ups-long : length (I .time) ≡ length U
     ups-long = long ∙ sym (sw .kept .up .long)
 
-    pub settle-ready : Ready U (Z .runs) (Z .store)
-    settle-ready = ready-of (length (I .time)) U (Z .runs) (Z .store) ups-long (st .runs) (st .room) (rw (sym long) at (up-rows (sw .kept)))
+    pub settle-ready : {X X' K' : List ℕ} {k : ℕ} → Noted (length (Z .ups)) (Z .ups) U X K X' K' 0 k → Ready U (Z .runs) (Z .store) × (k ≤ length X') × ((e : ℕ) → e < k → at X' e < length U) × (length K' ≡ length U)
+    settle-ready {X' = X'} {K'} {k} nt = (
+      ready-of (length (I .time)) U (Z .runs) (Z .store) ups-long (st .runs) (st .room) (rw (sym long) at (up-rows (sw .kept))),
+      omega (arith, listed-few (length (Z .ups)) k X' K' (nt .listing), nt .listing .room),
+      λ e l. omega (arith, nt .listing .rows e l, ups-long, ups-before),
+      nt .listing .marks ∙ ups-before ∙ ups-long,
+    )
 
-    pub listed-few : {W X X' : List ℕ} {k : ℕ} → t ≡ length X → Noted (length W) (3 * (i - Z .begun) + 3 * (j - Z .ended)) W U X X' 0 k → k ≤ length X'
-    listed-few e nt = omega (arith, nt .few, nt .long, st .listed, sw .ahead .begun .within, sw .ahead .ended .within)
-
-    pub listed-rows : {X X' : List ℕ} {m k : ℕ} → Noted (length (Z .ups)) m (Z .ups) U X X' 0 k → (e : ℕ) → e < k → at X' e < length U
-    listed-rows nt e l = omega (arith, nt .rows e (omega arith) l, ups-long, st .tree .kept .up .long, st .tree .kept .mended .shape .times)
-
-    pub place-ready : Placeable (I .position) (I .site) (I .node) (Z .lows) (length P) (Z .placed)
+    pub place-ready : Placeable (I .position) (I .site) (I .node) (Z .moves) (length P) (Z .placed)
     place-ready = record {
       nodes = st .sites .nodes;
       site-row = st .sites .site-row;
       node-row = rw (sym long) (st .sites .node-row);
-      cells = st .cells;
+      numbered = st .numbered;
+      even = st .even;
+      few = st .few;
       most = st .most;
     }

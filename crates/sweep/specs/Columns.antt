@@ -8,6 +8,7 @@ use Rattle.meaning.specs.Rows.{EdgeColumns}
 use Rattle.meaning.specs.Forest.{Par}
 use Rattle.bridge.specs.Parents.{code}
 use Rattle.byrows.specs.Rows.{upRow, lowRow}
+use Rattle.placing.specs.Placing.{Moves}
 use Rattle.runs.specs.Runs.{OpenRuns, Store}
 
 -- the columns that are read: nodes, edges, the edge rows by left and by right, sites and mutations
@@ -32,7 +33,7 @@ pub record State : Type 0 where
   pub ups : List ℕ
   pub runs : OpenRuns
   pub store : Store
-  pub lows : List ℕ
+  pub moves : Moves
   pub begun : ℕ
   pub ended : ℕ
   pub placed : ℕ

@@ -1,5 +1,5 @@
 // The sweep along the chromosome: from change to change the tree is brought up to date, the runs are settled and the
-// mutations get their nearest standing row.
+// mutations that have a nearest standing row are listed with it.
 ghost use Prim.Native.Nat.{ℕ, _<_};
 ghost use lib.ListN.{length};
 ghost use Rattle.mend.specs.Kept.{Filled};
@@ -30,13 +30,21 @@ fn clear(marks: &mut [u8])
     }
 }
 
-// How far a sweep has come: edges begun and ended, edges finished, mutations placed, and the position to deal with next.
+// How far a sweep has come: edges begun and ended, edges finished, mutations placed and those of them that move, and the position to deal with
+// next.
 pub struct Reach {
     pub begun: usize,
     pub ended: usize,
     pub made: usize,
     pub placed: usize,
+    pub kept: usize,
     pub next: u32,
+}
+
+// What a sweep counts: finished edges, or one more than their limit, and mutations that move.
+pub struct Tally {
+    pub edges: usize,
+    pub mutations: usize,
 }
 
 // Deals with the change where the sweep is: the tree is brought there, its runs are settled, and the mutations before the next
@@ -59,6 +67,7 @@ fn step(
     sum: &mut [u32],
     up: &mut [u32],
     touched: &mut [u32],
+    listed: &mut [u8],
     open_left: &mut [u32],
     open_par: &mut [u32],
     fl: &mut [u32],
@@ -66,11 +75,12 @@ fn step(
     fp: &mut [u32],
     fc: &mut [u32],
     stood: &mut [u8],
+    mrow: &mut [u32],
     mlow: &mut [u32],
     from: Reach,
 ) -> Reach
-    requires { ⌜ Steady len (record { time = now time; sample = now sample; left = now left; right = now right; parent = now parent; child = now child; by-left = now bl; by-right = now br; position = now position; site = now site; node = now node }) (length (now touched)) (from .next) (record { parents = now par; counts = now count; sums = now sum; ups = now up; runs = record { left = now open_left; par = now open_par }; store = record { left = now fl; right = now fr; parent = now fp; child = now fc; stood = now stood; count = from .made }; lows = now mlow; begun = from .begun; ended = from .ended; placed = from .placed }) × (from .next < len) ⌝ }
-    ensures { λ r. ⌜ Came len (record { time = now (time .entry); sample = now (sample .entry); left = now (left .entry); right = now (right .entry); parent = now (parent .entry); child = now (child .entry); by-left = now (bl .entry); by-right = now (br .entry); position = now (position .entry); site = now (site .entry); node = now (node .entry) }) (length (now (touched .entry))) (from .next) (record { parents = now (par .entry); counts = now (count .entry); sums = now (sum .entry); ups = now (up .entry); runs = record { left = now (open_left .entry); par = now (open_par .entry) }; store = record { left = now (fl .entry); right = now (fr .entry); parent = now (fp .entry); child = now (fc .entry); stood = now (stood .entry); count = from .made }; lows = now (mlow .entry); begun = from .begun; ended = from .ended; placed = from .placed }) (r .next) (record { parents = now (par .exit); counts = now (count .exit); sums = now (sum .exit); ups = now (up .exit); runs = record { left = now (open_left .exit); par = now (open_par .exit) }; store = record { left = now (fl .exit); right = now (fr .exit); parent = now (fp .exit); child = now (fc .exit); stood = now (stood .exit); count = r .made }; lows = now (mlow .exit); begun = r .begun; ended = r .ended; placed = r .placed }) × (from .next < r .next) ⌝ }
+    requires { ⌜ Steady len (record { time = now time; sample = now sample; left = now left; right = now right; parent = now parent; child = now child; by-left = now bl; by-right = now br; position = now position; site = now site; node = now node }) (length (now touched)) (now listed) (from .next) (record { parents = now par; counts = now count; sums = now sum; ups = now up; runs = record { left = now open_left; par = now open_par }; store = record { left = now fl; right = now fr; parent = now fp; child = now fc; stood = now stood; count = from .made }; moves = record { row = now mrow; low = now mlow; count = from .kept }; begun = from .begun; ended = from .ended; placed = from .placed }) × (from .next < len) ⌝ }
+    ensures { λ r. ⌜ Came len (record { time = now (time .entry); sample = now (sample .entry); left = now (left .entry); right = now (right .entry); parent = now (parent .entry); child = now (child .entry); by-left = now (bl .entry); by-right = now (br .entry); position = now (position .entry); site = now (site .entry); node = now (node .entry) }) (length (now (touched .entry))) (now (listed .entry)) (from .next) (record { parents = now (par .entry); counts = now (count .entry); sums = now (sum .entry); ups = now (up .entry); runs = record { left = now (open_left .entry); par = now (open_par .entry) }; store = record { left = now (fl .entry); right = now (fr .entry); parent = now (fp .entry); child = now (fc .entry); stood = now (stood .entry); count = from .made }; moves = record { row = now (mrow .entry); low = now (mlow .entry); count = from .kept }; begun = from .begun; ended = from .ended; placed = from .placed }) (now (listed .exit)) (r .next) (record { parents = now (par .exit); counts = now (count .exit); sums = now (sum .exit); ups = now (up .exit); runs = record { left = now (open_left .exit); par = now (open_par .exit) }; store = record { left = now (fl .exit); right = now (fr .exit); parent = now (fp .exit); child = now (fc .exit); stood = now (stood .exit); count = r .made }; moves = record { row = now (mrow .exit); low = now (mlow .exit); count = r .kept }; begun = r .begun; ended = r .ended; placed = r .placed }) × (from .next < r .next) ⌝ }
 {
     let x = from.next;
     let c = tree::advance(
@@ -81,6 +91,7 @@ fn step(
         sum,
         up,
         touched,
+        listed,
         left,
         right,
         parent,
@@ -97,6 +108,7 @@ fn step(
         x,
         len,
         touched,
+        listed,
         c.touched,
         up,
         open_left,
@@ -109,7 +121,7 @@ fn step(
         from.made,
     );
     let next = tree::next_change(left, right, bl, br, i, j, len);
-    let placed = placing::place(
+    let p = placing::place(
         time,
         sample,
         par,
@@ -118,15 +130,18 @@ fn step(
         position,
         site,
         node,
+        mrow,
         mlow,
         from.placed,
+        from.kept,
         next,
     );
     Reach {
         begun: i,
         ended: j,
         made: made,
-        placed: placed,
+        placed: p.placed,
+        kept: p.kept,
         next: next,
     }
 }
@@ -150,6 +165,7 @@ fn walk(
     sum: &mut [u32],
     up: &mut [u32],
     touched: &mut [u32],
+    listed: &mut [u8],
     open_left: &mut [u32],
     open_par: &mut [u32],
     fl: &mut [u32],
@@ -157,16 +173,18 @@ fn walk(
     fp: &mut [u32],
     fc: &mut [u32],
     stood: &mut [u8],
+    mrow: &mut [u32],
     mlow: &mut [u32],
-) -> usize
-    requires { ⌜ Steady len (record { time = now time; sample = now sample; left = now left; right = now right; parent = now parent; child = now child; by-left = now bl; by-right = now br; position = now position; site = now site; node = now node }) (length (now touched)) 0 (record { parents = now par; counts = now count; sums = now sum; ups = now up; runs = record { left = now open_left; par = now open_par }; store = record { left = now fl; right = now fr; parent = now fp; child = now fc; stood = now stood; count = 0 }; lows = now mlow; begun = 0; ended = 0; placed = 0 }) ⌝ }
-    ensures { λ r. ⌜ ((Q : List ℕ) → Flags (now (sample .entry)) Q (length (now (time .entry))) → (F : List Edge) → Going len (record { time = now (time .entry); sample = now (sample .entry); left = now (left .entry); right = now (right .entry); parent = now (parent .entry); child = now (child .entry); by-left = now (bl .entry); by-right = now (br .entry); position = now (position .entry); site = now (site .entry); node = now (node .entry) }) 0 Q F (record { parents = now (par .entry); counts = now (count .entry); sums = now (sum .entry); ups = now (up .entry); runs = record { left = now (open_left .entry); par = now (open_par .entry) }; store = record { left = now (fl .entry); right = now (fr .entry); parent = now (fp .entry); child = now (fc .entry); stood = now (stood .entry); count = 0 }; lows = now (mlow .entry); begun = 0; ended = 0; placed = 0 }) → Done len (record { time = now (time .entry); sample = now (sample .entry); left = now (left .entry); right = now (right .entry); parent = now (parent .entry); child = now (child .entry); by-left = now (bl .entry); by-right = now (br .entry); position = now (position .entry); site = now (site .entry); node = now (node .entry) }) Q (now (mlow .entry)) (record { left = now (fl .exit); right = now (fr .exit); parent = now (fp .exit); child = now (fc .exit); stood = now (stood .exit); count = r }) (now (mlow .exit))) ⌝ }
+) -> Tally
+    requires { ⌜ Steady len (record { time = now time; sample = now sample; left = now left; right = now right; parent = now parent; child = now child; by-left = now bl; by-right = now br; position = now position; site = now site; node = now node }) (length (now touched)) (now listed) 0 (record { parents = now par; counts = now count; sums = now sum; ups = now up; runs = record { left = now open_left; par = now open_par }; store = record { left = now fl; right = now fr; parent = now fp; child = now fc; stood = now stood; count = 0 }; moves = record { row = now mrow; low = now mlow; count = 0 }; begun = 0; ended = 0; placed = 0 }) ⌝ }
+    ensures { λ r. ⌜ ((Q : List ℕ) → Flags (now (sample .entry)) Q (length (now (time .entry))) → (F : List Edge) → Going len (record { time = now (time .entry); sample = now (sample .entry); left = now (left .entry); right = now (right .entry); parent = now (parent .entry); child = now (child .entry); by-left = now (bl .entry); by-right = now (br .entry); position = now (position .entry); site = now (site .entry); node = now (node .entry) }) 0 Q F (record { parents = now (par .entry); counts = now (count .entry); sums = now (sum .entry); ups = now (up .entry); runs = record { left = now (open_left .entry); par = now (open_par .entry) }; store = record { left = now (fl .entry); right = now (fr .entry); parent = now (fp .entry); child = now (fc .entry); stood = now (stood .entry); count = 0 }; moves = record { row = now (mrow .entry); low = now (mlow .entry); count = 0 }; begun = 0; ended = 0; placed = 0 }) → Done len (record { time = now (time .entry); sample = now (sample .entry); left = now (left .entry); right = now (right .entry); parent = now (parent .entry); child = now (child .entry); by-left = now (bl .entry); by-right = now (br .entry); position = now (position .entry); site = now (site .entry); node = now (node .entry) }) Q (record { left = now (fl .entry); right = now (fr .entry); parent = now (fp .entry); child = now (fc .entry); stood = now (stood .entry); count = 0 }) (record { row = now (mrow .entry); low = now (mlow .entry); count = 0 }) (record { left = now (fl .exit); right = now (fr .exit); parent = now (fp .exit); child = now (fc .exit); stood = now (stood .exit); count = r .edges }) (record { row = now (mrow .exit); low = now (mlow .exit); count = r .mutations })) ⌝ }
 {
     let mut at = Reach {
         begun: 0,
         ended: 0,
         made: 0,
         placed: 0,
+        kept: 0,
         next: 0,
     };
     while at.next < len {
@@ -188,6 +206,7 @@ fn walk(
             sum,
             up,
             touched,
+            listed,
             open_left,
             open_par,
             fl,
@@ -195,15 +214,20 @@ fn walk(
             fp,
             fc,
             stood,
+            mrow,
             mlow,
             at,
         );
     }
-    runs::close(len, open_left, open_par, fl, fr, fp, fc, stood, at.made)
+    let edges = runs::close(len, open_left, open_par, fl, fr, fp, fc, stood, at.made);
+    Tally {
+        edges: edges,
+        mutations: at.kept,
+    }
 }
 
-// Sweeps along the chromosome: the finished edges of all output parents, and the nearest standing row of each mutation. The answer is
-// the number of finished edges, or one more than fit.
+// Sweeps along the chromosome: the finished edges of all output parents, and the mutations that move with their nearest standing rows, each
+// written while there are cells, and counted in any case.
 pub fn sweep(
     len: u32,
     time: &[u32],
@@ -222,6 +246,7 @@ pub fn sweep(
     sum: &mut [u32],
     up: &mut [u32],
     touched: &mut [u32],
+    listed: &mut [u8],
     open_left: &mut [u32],
     open_par: &mut [u32],
     fl: &mut [u32],
@@ -229,14 +254,16 @@ pub fn sweep(
     fp: &mut [u32],
     fc: &mut [u32],
     stood: &mut [u8],
+    mrow: &mut [u32],
     mlow: &mut [u32],
-) -> usize
-    requires { ⌜ Asked len (record { time = now time; sample = now sample; left = now left; right = now right; parent = now parent; child = now child; by-left = now bl; by-right = now br; position = now position; site = now site; node = now node }) (length (now touched)) (record { parents = now par; counts = now count; sums = now sum; ups = now up; runs = record { left = now open_left; par = now open_par }; store = record { left = now fl; right = now fr; parent = now fp; child = now fc; stood = now stood; count = 0 }; lows = now mlow; begun = 0; ended = 0; placed = 0 }) ⌝ }
-    ensures { λ r. ⌜ ((Q : List ℕ) → Flags (now (sample .entry)) Q (length (now (time .entry))) → Done len (record { time = now (time .entry); sample = now (sample .entry); left = now (left .entry); right = now (right .entry); parent = now (parent .entry); child = now (child .entry); by-left = now (bl .entry); by-right = now (br .entry); position = now (position .entry); site = now (site .entry); node = now (node .entry) }) Q (now (mlow .entry)) (record { left = now (fl .exit); right = now (fr .exit); parent = now (fp .exit); child = now (fc .exit); stood = now (stood .exit); count = r }) (now (mlow .exit))) ⌝ }
+) -> Tally
+    requires { ⌜ Asked len (record { time = now time; sample = now sample; left = now left; right = now right; parent = now parent; child = now child; by-left = now bl; by-right = now br; position = now position; site = now site; node = now node }) (length (now touched)) (now listed) (record { parents = now par; counts = now count; sums = now sum; ups = now up; runs = record { left = now open_left; par = now open_par }; store = record { left = now fl; right = now fr; parent = now fp; child = now fc; stood = now stood; count = 0 }; moves = record { row = now mrow; low = now mlow; count = 0 }; begun = 0; ended = 0; placed = 0 }) ⌝ }
+    ensures { λ r. ⌜ ((Q : List ℕ) → Flags (now (sample .entry)) Q (length (now (time .entry))) → Done len (record { time = now (time .entry); sample = now (sample .entry); left = now (left .entry); right = now (right .entry); parent = now (parent .entry); child = now (child .entry); by-left = now (bl .entry); by-right = now (br .entry); position = now (position .entry); site = now (site .entry); node = now (node .entry) }) Q (record { left = now (fl .entry); right = now (fr .entry); parent = now (fp .entry); child = now (fc .entry); stood = now (stood .entry); count = 0 }) (record { row = now (mrow .entry); low = now (mlow .entry); count = 0 }) (record { left = now (fl .exit); right = now (fr .exit); parent = now (fp .exit); child = now (fc .exit); stood = now (stood .exit); count = r .edges }) (record { row = now (mrow .exit); low = now (mlow .exit); count = r .mutations })) ⌝ }
 {
     tree::start(time, sample, par, count, sum, up);
     fill(open_left, 0);
     fill(open_par, tree::NONE);
+    clear(listed);
     clear(stood);
     walk(
         len,
@@ -256,6 +283,7 @@ pub fn sweep(
         sum,
         up,
         touched,
+        listed,
         open_left,
         open_par,
         fl,
@@ -263,6 +291,7 @@ pub fn sweep(
         fp,
         fc,
         stood,
+        mrow,
         mlow,
     )
 }

@@ -3,9 +3,10 @@ use super::edge::insert_up;
 use super::edge::remove_up;
 ghost use mathlib.Core.Path.{_≡_};
 ghost use mathlib.Core.List.{List};
-ghost use Prim.Native.Nat.{ℕ, _+_, _-_, _*_, _≤_};
+ghost use Prim.Native.Nat.{ℕ, _+_, _≤_};
 ghost use lib.ListN.{length};
-ghost use Rattle.mend.specs.Kept.{Kept, Noted};
+ghost use Rattle.mend.specs.Kept.{Kept};
+ghost use Rattle.mend.specs.Listing.{Listed, Noted};
 ghost use Rattle.tree.specs.Sweep.{Plan, Between, Swept, Index, nextKey, nextChange};
 ghost use Rattle.tree.specs.TreeAt.{columns, Flags, TreeAt};
 
@@ -25,6 +26,7 @@ fn end_edges(
     sum: &mut [u32],
     up: &mut [u32],
     touched: &mut [u32],
+    listed: &mut [u8],
     left: &[u32],
     right: &[u32],
     above: &[u32],
@@ -36,8 +38,8 @@ fn end_edges(
     k0: usize,
     x: u32,
 ) -> Cursor
-    requires { ⌜ Kept (now time) (now sample) (now parent) (now count) (now sum) (now up) × Plan (now time) (now left) (now right) (now above) (now child) (now bl) (now br) (length (now parent)) × Between (now left) (now right) (now above) (now child) (now bl) (now br) (now parent) i j0 x x x (x + 1) × (k0 + 3 * (length (now br) - j0) ≤ length (now touched)) ⌝ }
-    ensures { λ r. ⌜ Kept (now (time .entry)) (now (sample .entry)) (now (parent .exit)) (now (count .exit)) (now (sum .exit)) (now (up .exit)) × Between (now (left .entry)) (now (right .entry)) (now (above .entry)) (now (child .entry)) (now (bl .entry)) (now (br .entry)) (now (parent .exit)) i (r .ended) x x (x + 1) (x + 1) × Noted (length (now (up .entry))) (3 * (r .ended - j0)) (now (up .entry)) (now (up .exit)) (now (touched .entry)) (now (touched .exit)) k0 (r .touched) × (j0 ≤ r .ended) ⌝ }
+    requires { ⌜ Kept (now time) (now sample) (now parent) (now count) (now sum) (now up) × Plan (now time) (now left) (now right) (now above) (now child) (now bl) (now br) (length (now parent)) × Between (now left) (now right) (now above) (now child) (now bl) (now br) (now parent) i j0 x x x (x + 1) × Listed (length (now up)) k0 (now touched) (now listed) ⌝ }
+    ensures { λ r. ⌜ Kept (now (time .entry)) (now (sample .entry)) (now (parent .exit)) (now (count .exit)) (now (sum .exit)) (now (up .exit)) × Between (now (left .entry)) (now (right .entry)) (now (above .entry)) (now (child .entry)) (now (bl .entry)) (now (br .entry)) (now (parent .exit)) i (r .ended) x x (x + 1) (x + 1) × Noted (length (now (up .entry))) (now (up .entry)) (now (up .exit)) (now (touched .entry)) (now (listed .entry)) (now (touched .exit)) (now (listed .exit)) k0 (r .touched) × (j0 ≤ r .ended) ⌝ }
 {
     let mut j = j0;
     let mut k = k0;
@@ -58,6 +60,7 @@ fn end_edges(
             sum,
             up,
             touched,
+            listed,
             k,
             child[e as usize],
         );
@@ -79,6 +82,7 @@ fn begin_edges(
     sum: &mut [u32],
     up: &mut [u32],
     touched: &mut [u32],
+    listed: &mut [u8],
     left: &[u32],
     right: &[u32],
     above: &[u32],
@@ -90,8 +94,8 @@ fn begin_edges(
     k0: usize,
     x: u32,
 ) -> Cursor
-    requires { ⌜ Kept (now time) (now sample) (now parent) (now count) (now sum) (now up) × Plan (now time) (now left) (now right) (now above) (now child) (now bl) (now br) (length (now parent)) × Between (now left) (now right) (now above) (now child) (now bl) (now br) (now parent) i0 j x (x + 1) (x + 1) (x + 1) × (k0 + 3 * (length (now bl) - i0) ≤ length (now touched)) ⌝ }
-    ensures { λ r. ⌜ Kept (now (time .entry)) (now (sample .entry)) (now (parent .exit)) (now (count .exit)) (now (sum .exit)) (now (up .exit)) × Between (now (left .entry)) (now (right .entry)) (now (above .entry)) (now (child .entry)) (now (bl .entry)) (now (br .entry)) (now (parent .exit)) (r .begun) j (x + 1) (x + 1) (x + 1) (x + 1) × Noted (length (now (up .entry))) (3 * (r .begun - i0)) (now (up .entry)) (now (up .exit)) (now (touched .entry)) (now (touched .exit)) k0 (r .touched) × (i0 ≤ r .begun) × (r .ended ≡ j) ⌝ }
+    requires { ⌜ Kept (now time) (now sample) (now parent) (now count) (now sum) (now up) × Plan (now time) (now left) (now right) (now above) (now child) (now bl) (now br) (length (now parent)) × Between (now left) (now right) (now above) (now child) (now bl) (now br) (now parent) i0 j x (x + 1) (x + 1) (x + 1) × Listed (length (now up)) k0 (now touched) (now listed) ⌝ }
+    ensures { λ r. ⌜ Kept (now (time .entry)) (now (sample .entry)) (now (parent .exit)) (now (count .exit)) (now (sum .exit)) (now (up .exit)) × Between (now (left .entry)) (now (right .entry)) (now (above .entry)) (now (child .entry)) (now (bl .entry)) (now (br .entry)) (now (parent .exit)) (r .begun) j (x + 1) (x + 1) (x + 1) (x + 1) × Noted (length (now (up .entry))) (now (up .entry)) (now (up .exit)) (now (touched .entry)) (now (listed .entry)) (now (touched .exit)) (now (listed .exit)) k0 (r .touched) × (i0 ≤ r .begun) × (r .ended ≡ j) ⌝ }
 {
     let mut i = i0;
     let mut k = k0;
@@ -112,6 +116,7 @@ fn begin_edges(
             sum,
             up,
             touched,
+            listed,
             k,
             child[e as usize],
             above[e as usize],
@@ -134,6 +139,7 @@ pub fn advance(
     sum: &mut [u32],
     up: &mut [u32],
     touched: &mut [u32],
+    listed: &mut [u8],
     left: &[u32],
     right: &[u32],
     above: &[u32],
@@ -144,8 +150,8 @@ pub fn advance(
     j: usize,
     x: u32,
 ) -> Cursor
-    requires { ⌜ Swept (now time) (now sample) (now parent) (now count) (now sum) (now up) (now left) (now right) (now above) (now child) (now bl) (now br) i j x × (3 * (length (now bl) - i) + 3 * (length (now br) - j) ≤ length (now touched)) ⌝ }
-    ensures { λ r. ⌜ Swept (now (time .entry)) (now (sample .entry)) (now (parent .exit)) (now (count .exit)) (now (sum .exit)) (now (up .exit)) (now (left .entry)) (now (right .entry)) (now (above .entry)) (now (child .entry)) (now (bl .entry)) (now (br .entry)) (r .begun) (r .ended) (x + 1) × ((Q : List ℕ) → Flags (now (sample .entry)) Q (length (now (parent .exit))) → TreeAt (columns (now (left .entry)) (now (right .entry)) (now (above .entry)) (now (child .entry))) Q (length (now (parent .exit))) x (now (sample .entry)) (now (parent .exit)) (now (count .exit)) (now (up .exit))) × Noted (length (now (up .entry))) (3 * (r .begun - i) + 3 * (r .ended - j)) (now (up .entry)) (now (up .exit)) (now (touched .entry)) (now (touched .exit)) 0 (r .touched) ⌝ }
+    requires { ⌜ Swept (now time) (now sample) (now parent) (now count) (now sum) (now up) (now left) (now right) (now above) (now child) (now bl) (now br) i j x × Listed (length (now up)) 0 (now touched) (now listed) ⌝ }
+    ensures { λ r. ⌜ Swept (now (time .entry)) (now (sample .entry)) (now (parent .exit)) (now (count .exit)) (now (sum .exit)) (now (up .exit)) (now (left .entry)) (now (right .entry)) (now (above .entry)) (now (child .entry)) (now (bl .entry)) (now (br .entry)) (r .begun) (r .ended) (x + 1) × ((Q : List ℕ) → Flags (now (sample .entry)) Q (length (now (parent .exit))) → TreeAt (columns (now (left .entry)) (now (right .entry)) (now (above .entry)) (now (child .entry))) Q (length (now (parent .exit))) x (now (sample .entry)) (now (parent .exit)) (now (count .exit)) (now (up .exit))) × Noted (length (now (up .entry))) (now (up .entry)) (now (up .exit)) (now (touched .entry)) (now (listed .entry)) (now (touched .exit)) (now (listed .exit)) 0 (r .touched) ⌝ }
 {
     let a = end_edges(
         time,
@@ -155,6 +161,7 @@ pub fn advance(
         sum,
         up,
         touched,
+        listed,
         left,
         right,
         above,
@@ -176,6 +183,7 @@ pub fn advance(
         sum,
         up,
         touched,
+        listed,
         left,
         right,
         above,

@@ -11,11 +11,12 @@ use mend::up::put_up;
 use mend::up::seat;
 ghost use mathlib.Core.Path.{_≡_};
 ghost use mathlib.Core.Bool.{true};
-ghost use Prim.Native.Nat.{ℕ, _+_, _<_, _≤_};
+ghost use Prim.Native.Nat.{_<_};
 ghost use lib.ListN.{length, getD, set};
 ghost use Rattle.mend.specs.Right.{none, live};
 ghost use Rattle.mend.specs.Line.{Gained, Lost};
-ghost use Rattle.mend.specs.Kept.{Mended, Kept, Enters, Noted};
+ghost use Rattle.mend.specs.Kept.{Mended, Kept, Enters};
+ghost use Rattle.mend.specs.Listing.{Listed, Noted};
 
 // c, which lives, gets the parent p; the answer is the row where mending ends.
 fn link(
@@ -60,12 +61,13 @@ pub fn insert_up(
     sum: &mut [u32],
     up: &mut [u32],
     touched: &mut [u32],
+    listed: &mut [u8],
     k: usize,
     c: u32,
     p: u32,
 ) -> usize
-    requires { ⌜ Kept (now time) (now sample) (now parent) (now count) (now sum) (now up) × Enters (now time) (now parent) c p × (k + 3 ≤ length (now touched)) ⌝ }
-    ensures { λ r. ⌜ (now (parent .exit) ≡ set (now (parent .entry)) c p) × Kept (now (time .entry)) (now (sample .entry)) (now (parent .exit)) (now (count .exit)) (now (sum .exit)) (now (up .exit)) × Noted (length (now (up .entry))) 3 (now (up .entry)) (now (up .exit)) (now (touched .entry)) (now (touched .exit)) k r ⌝ }
+    requires { ⌜ Kept (now time) (now sample) (now parent) (now count) (now sum) (now up) × Enters (now time) (now parent) c p × Listed (length (now up)) k (now touched) (now listed) ⌝ }
+    ensures { λ r. ⌜ (now (parent .exit) ≡ set (now (parent .entry)) c p) × Kept (now (time .entry)) (now (sample .entry)) (now (parent .exit)) (now (count .exit)) (now (sum .exit)) (now (up .exit)) × Noted (length (now (up .entry))) (now (up .entry)) (now (up .exit)) (now (touched .entry)) (now (listed .entry)) (now (touched .exit)) (now (listed .exit)) k r ⌝ }
 {
     if alive(sample, count, c) {
         let s = stop(time, sample, parent, count, p);
@@ -73,9 +75,9 @@ pub fn insert_up(
         let z = heir(time, sample, parent, count, sum, s);
         link(time, sample, parent, count, sum, c, p);
         if z == NONE {
-            return put_up(up, touched, k, w, s);
+            return put_up(up, touched, listed, k, w, s);
         }
-        return seat(up, touched, k, w, z, s);
+        return seat(up, touched, listed, k, w, z, s);
     }
     parent[c as usize] = p;
     k
@@ -90,20 +92,21 @@ pub fn remove_up(
     sum: &mut [u32],
     up: &mut [u32],
     touched: &mut [u32],
+    listed: &mut [u8],
     k: usize,
     c: u32,
 ) -> usize
-    requires { ⌜ Kept (now time) (now sample) (now parent) (now count) (now sum) (now up) × (c < length (now parent)) × (k + 3 ≤ length (now touched)) × (getD (now parent) c 0 ≡ none → ⊥) ⌝ }
-    ensures { λ r. ⌜ (now (parent .exit) ≡ set (now (parent .entry)) c none) × Kept (now (time .entry)) (now (sample .entry)) (now (parent .exit)) (now (count .exit)) (now (sum .exit)) (now (up .exit)) × Noted (length (now (up .entry))) 3 (now (up .entry)) (now (up .exit)) (now (touched .entry)) (now (touched .exit)) k r ⌝ }
+    requires { ⌜ Kept (now time) (now sample) (now parent) (now count) (now sum) (now up) × (c < length (now parent)) × Listed (length (now up)) k (now touched) (now listed) × (getD (now parent) c 0 ≡ none → ⊥) ⌝ }
+    ensures { λ r. ⌜ (now (parent .exit) ≡ set (now (parent .entry)) c none) × Kept (now (time .entry)) (now (sample .entry)) (now (parent .exit)) (now (count .exit)) (now (sum .exit)) (now (up .exit)) × Noted (length (now (up .entry))) (now (up .entry)) (now (up .exit)) (now (touched .entry)) (now (listed .entry)) (now (touched .exit)) (now (listed .exit)) k r ⌝ }
 {
     if alive(sample, count, c) {
         let s = unlink(time, sample, parent, count, sum, c);
         let w = low(time, sample, parent, count, sum, c);
         let z = heir(time, sample, parent, count, sum, s);
         if z == NONE {
-            return put_up(up, touched, k, w, NONE);
+            return put_up(up, touched, listed, k, w, NONE);
         }
-        return cede(up, touched, k, w, z, s);
+        return cede(up, touched, listed, k, w, z, s);
     }
     parent[c as usize] = NONE;
     k

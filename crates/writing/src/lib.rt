@@ -8,7 +8,6 @@ ghost use Rattle.meaning.specs.Words.{at, or};
 ghost use Rattle.meaning.specs.Answer.{put};
 ghost use Rattle.order.specs.Order.{Inside};
 ghost use Rattle.writing.specs.Renamed.{renamed};
-ghost use Rattle.writing.specs.Moving.{movedAt};
 ghost use Rattle.writing.specs.Room.{Needs, Lent, roomAnswer, roomOf};
 use meaning::EdgeTable;
 use meaning::MapTable;
@@ -86,23 +85,6 @@ pub fn rename(names: &[u32], col: &mut [u32], k: usize)
         }
         i += 1;
     }
-}
-
-// The mutation rows of the first n whose cell is a row, in row order, to the front of out; how many they are.
-pub fn moved_rows(low: &[u32], n: usize, out: &mut [u32]) -> usize
-    requires { ⌜ (n ≤ length (now low)) × (n ≤ length (now out)) × (n ≤ 4294967295) ⌝ }
-    ensures { λ r. ⌜ (r ≡ length (movedAt (now (low .entry)) n)) × (now (out .exit) ≡ put (movedAt (now (low .entry)) n) (now (out .entry))) ⌝ }
-{
-    let mut k: usize = 0;
-    let mut i: usize = 0;
-    while i < n {
-        if low[i] != MapTable::NONE {
-            out[k] = i as u32;
-            k += 1;
-        }
-        i += 1;
-    }
-    k
 }
 
 // The smaller of two numbers.

@@ -1,5 +1,4 @@
 -- `cleaner::clean` meets its contract: the case of a block of four cells.
-use native.Mathlib.Omega.{arith}
 use borrow.Author.Needs.{needs}
 use Rattle.cleaner.proofs.clean.Statement.{statement}
 use Rattle.cleaner.proofs.clean.Tie as tie

@@ -9,13 +9,13 @@ use Rattle.placing.proofs.place.Statement.{statement}
 use Rattle.placing.proofs.place.Tie as tie
 
 abbrev Inv-loop : tie.InvT-loop
-Inv-loop time sample par count sum position site node mlow₀ m0 next m₀ mlow m = Between sample par position site node next mlow₀ m0 mlow m
+Inv-loop time sample par count sum position site node mrow₀ mlow₀ m0 k0 next m₀ k₀ mrow mlow m k = Between sample par position site node next (record { row = mrow₀; low = mlow₀; count = k0 }) m0 (record { row = mrow; low = mlow; count = k }) m
 
 abbrev μ-loop : tie.MeasureT-loop
-μ-loop time sample par count sum position site node mlow₀ m0 next m₀ mlow m = length site - m
+μ-loop time sample par count sum position site node mrow₀ mlow₀ m0 k0 next m₀ k₀ mrow mlow m k = length site - m
 
 loop-holds : tie.Need-loop-holds Inv-loop μ-loop
-loop-holds c = none-given (c .before .before .before .before .before .before .before .before .before .pre .1 .most)
+loop-holds c = none-given (c .before .before .before .before .before .before .before .before .before .before .pre .1 .most) (c .before .before .before .before .before .before .before .before .before .before .pre .1 .few)
 
 mul-s : tie.Need-mul-s Inv-loop μ-loop
 mul-s c = search needs
@@ -24,49 +24,55 @@ shared-slice-read-s : tie.Need-shared-slice-read-s Inv-loop μ-loop
 shared-slice-read-s c = search needs
 
 cast-if1 : tie.Need-cast-if1 Inv-loop μ-loop
-cast-if1 c = let h : _ = c .before .before .before .before .before .before .before .before .before .before .before .before .pre .1 .site-row _ (c .before .loop-test .taken) in search needs
+cast-if1 c = let h : _ = c .before .before .before .before .before .before .before .before .before .before .before .before .before .pre .1 .site-row _ (c .before .loop-test .taken) in search needs
 
 mul-if1 : tie.Need-mul-if1 Inv-loop μ-loop
-mul-if1 c = let h : _ = c .before .before .before .before .before .before .before .before .before .before .before .before .pre .1 .site-row _ (c .before .loop-test .taken) in search needs
+mul-if1 c = let h : _ = c .before .before .before .before .before .before .before .before .before .before .before .before .before .pre .1 .site-row _ (c .before .loop-test .taken) in search needs
 
 shared-slice-read-if1 : tie.Need-shared-slice-read-if1 Inv-loop μ-loop
-shared-slice-read-if1 c = c .before .before .before .before .before .before .before .before .before .before .before .before .before .pre .1 .site-row _ (c .before .before .loop-test .taken)
+shared-slice-read-if1 c = c .before .before .before .before .before .before .before .before .before .before .before .before .before .before .pre .1 .site-row _ (c .before .before .loop-test .taken)
 
 same-length : tie.Need-same-length Inv-loop μ-loop
-same-length c = c .before .before .before .before .loop .inv .long
+same-length c = c .before .before .before .before .loop .inv .beyond .rows-long
+
+same-length-2 : tie.Need-same-length-2 Inv-loop μ-loop
+same-length-2 c = c .before .before .before .before .loop .inv .beyond .lows-long
 
 returns : tie.Need-returns Inv-loop μ-loop
 returns c = record { between = c .before .before .before .before .loop .inv; stopped = λ h. (c .if1 .taken) }
 
 mul-low-at : tie.Need-mul-low-at Inv-loop μ-loop
-mul-low-at c = let h : _ = c .before .before .before .before .before .before .before .before .before .before .before .before .before .before .pre .1 .nodes in let l : _ = (c .before .before .before .loop-test .taken) in search needs
+mul-low-at c = let h : _ = c .before .before .before .before .before .before .before .before .before .before .before .before .before .before .before .pre .1 .nodes in let l : _ = (c .before .before .before .loop-test .taken) in search needs
 
 shared-slice-read-low-at : tie.Need-shared-slice-read-low-at Inv-loop μ-loop
-shared-slice-read-low-at c = omega (arith, c .before .before .before .before .before .before .before .before .before .before .before .before .before .before .before .pre .1 .nodes, (c .before .before .before .before .loop-test .taken))
+shared-slice-read-low-at c = omega (arith, c .before .before .before .before .before .before .before .before .before .before .before .before .before .before .before .before .pre .1 .nodes, c .before .before .before .before .loop-test .taken)
 
 low-at-requires : tie.Need-low-at-requires Inv-loop μ-loop
-low-at-requires c κs = (c .before .before .before .before .before .before .before .before .before .before .before .before .before .before .before .pre .0, c .before .before .before .before .before .before .before .before .before .before .before .before .before .before .before .pre .1 .node-row _ (c .before .before .before .before .loop-test .taken))
+low-at-requires c κs = (c .before .before .before .before .before .before .before .before .before .before .before .before .before .before .before .before .pre .0, c .before .before .before .before .before .before .before .before .before .before .before .before .before .before .before .before .pre .1 .node-row _ (c .before .before .before .before .loop-test .taken))
 
-mul-mlow : tie.Need-mul-mlow Inv-loop μ-loop
-mul-mlow c = let h : _ = c .before .before .before .before .before .before .before .before .before .before .before .before .before .before .before .before .pre .1 .cells in let l : _ = (c .before .before .before .before .before .loop-test .taken) in let k : _ = c .before .before .before .before .before .before .loop .inv .long in search needs
+cast-keep : tie.Need-cast-keep Inv-loop μ-loop
+cast-keep c = omega (arith, c .before .before .before .before .before .before .before .before .before .before .before .before .before .before .before .before .before .before .before .pre .1 .numbered, c .before .before .before .before .before .before .before .loop-test .taken)
 
-slice-write-mlow : tie.Need-slice-write-mlow Inv-loop μ-loop
-slice-write-mlow c = omega (arith, c .before .before .before .before .before .before .before .before .before .before .before .before .before .before .before .before .pre .1 .cells, (c .before .before .before .before .before .loop-test .taken), c .before .before .before .before .before .before .loop .inv .long)
+keep-requires : tie.Need-keep-requires Inv-loop μ-loop
+keep-requires c κs = (omega (arith, c .before .before .before .before .before .before .before .before .before .before .before .before .before .before .before .before .before .before .before .pre .1 .even, c .before .before .before .before .before .before .before .before .loop .inv .beyond .rows-long, c .before .before .before .before .before .before .before .before .loop .inv .beyond .lows-long), omega (arith, c .before .before .before .before .before .before .before .before .before .before .before .before .before .before .before .before .before .before .before .pre .1 .numbered, c .before .before .before .before .before .before .before .loop-test .taken, c .before .before .before .before .before .before .before .before .loop .inv .few))
 
 add-m : tie.Need-add-m Inv-loop μ-loop
-add-m c = search needs
+add-m c = omega (arith, c .before .before .before .before .before .before .before .before .before .before .before .before .before .before .before .before .before .before .before .before .before .before .before .before .pre .1 .numbered, c .before .before .before .before .before .before .before .before .before .before .before .before .loop-test .taken)
 
 loop-less : tie.Need-loop-less Inv-loop μ-loop
-loop-less c = omega (arith, (c .before .before .before .before .before .loop-test .taken))
+loop-less c = omega (arith, c .before .before .before .before .before .before .before .before .before .before .before .before .loop-test .taken)
 
 loop-again : tie.Need-loop-again Inv-loop μ-loop
-loop-again c = one-given _ (c .before .before .before .before .before .before .loop .inv) (omega (arith, c .before .before .before .before .before .before .before .before .before .before .before .before .before .before .before .before .pre .1 .cells, (c .before .before .before .before .before .loop-test .taken), c .before .before .before .before .before .before .loop .inv .long)) (c .before .before .before .before .before .loop-test .taken) (c .before .before .if1 .left) (λ E Q x fl is. c .low-at .ensures E Q x fl is)
+loop-again c = one-given _ (c .before .before .before .before .before .before .before .before .before .before .before .before .before .loop .inv) (c .before .before .before .before .keep .ensures) (c .before .before .before .before .before .before .before .before .before .before .before .before .loop-test .taken) (c .before .before .before .before .before .before .before .before .before .if1 .left) (λ E Q x fl is. c .before .before .before .before .before .before .before .low-at .ensures E Q x fl is)
 
-same-length-2 : tie.Need-same-length-2 Inv-loop μ-loop
-same-length-2 c = c .before .loop .inv .long
+same-length-3 : tie.Need-same-length-3 Inv-loop μ-loop
+same-length-3 c = c .before .loop .inv .beyond .rows-long
+
+same-length-4 : tie.Need-same-length-4 Inv-loop μ-loop
+same-length-4 c = c .before .loop .inv .beyond .lows-long
 
 returns-2 : tie.Need-returns-2 Inv-loop μ-loop
-returns-2 c = record { between = c .before .loop .inv; stopped = λ h. absurd (omega (arith, (c .loop-test .left))) }
+returns-2 c = record { between = c .before .loop .inv; stopped = λ h. absurd (omega (arith, c .loop-test .left)) }
 
 pub place-spec : {M : Type 1} → statement M
 place-spec =
@@ -81,14 +87,16 @@ place-spec =
     mul-if1
     shared-slice-read-if1
     same-length
+    same-length-2
     returns
     mul-low-at
     shared-slice-read-low-at
     low-at-requires
-    mul-mlow
-    slice-write-mlow
+    cast-keep
+    keep-requires
     add-m
     loop-less
     loop-again
-    same-length-2
+    same-length-3
+    same-length-4
     returns-2)

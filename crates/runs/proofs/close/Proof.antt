@@ -1,7 +1,6 @@
 -- `runs::close` meets its contract: the open runs are finished row by row.
 use Prim.Native.Nat.{_≤_, _-_}
 use lib.ListN.{length}
-use Rattle.runs.proofs.Changing.{room-kept}
 use Rattle.runs.proofs.Closing.{Closing, closing-start, closing-next, closing-end}
 use native.Mathlib.Omega.{arith}
 use borrow.Author.Needs.{needs}
@@ -33,20 +32,20 @@ loop-less c = search needs
 loop-again : tie.Need-loop-again Inv-loop μ-loop
 loop-again c = (
   search needs,
-  closing-next _ _ _ _ _ _ (c .before .before .before .before .before .before .before .before .before .before .before .before .before .before .before .before .before .before .before .before .before .before .before .before .before .pre .0) (c .before .before .before .before .before .before .before .before .before .before .before .before .before .before .before .before .loop-test .taken) (c .before .before .before .before .before .before .before .before .before .before .before .before .before .before .before .before .before .loop .inv .1) (c .before .before .before .before .before .before .before .before .before .before .close-row .ensures) (room-kept _ _ _ (c .before .before .before .before .before .before .before .before .before .before .before .before .before .before .before .before .before .loop .inv .1 .room) (c .before .before .before .before .before .before .before .before .before .before .close-row .kept .1 .1 .1 .1 .0) (c .before .before .before .before .before .before .before .before .before .before .close-row .kept .1 .1 .1 .1 .1 .0) (c .before .before .before .before .before .before .before .before .before .before .close-row .kept .1 .1 .1 .1 .1 .1 .0) (c .before .before .before .before .before .before .before .before .before .before .close-row .kept .1 .1 .1 .1 .1 .1 .1 .0) (c .before .before .before .before .before .before .before .before .before .before .close-row .kept .1 .1 .1 .1 .1 .1 .1 .1 .0)) (c .before .before .before .before .before .before .before .before .before .before .close-row .kept .1 .1 .1 .1 .0),
+  closing-next _ _ _ _ _ _ (c .before .before .before .before .before .before .before .before .before .before .before .before .before .before .before .before .before .before .before .before .before .before .before .before .before .pre .0) (c .before .before .before .before .before .before .before .before .before .before .before .before .before .before .before .before .loop-test .taken) (c .before .before .before .before .before .before .before .before .before .before .before .before .before .before .before .before .before .loop .inv .1) (c .before .before .before .before .before .before .before .before .before .before .close-row .ensures) (c .before .before .before .before .before .before .before .before .before .before .close-row .kept .1 .1 .1 .1 .1 .1 .1 .1 .0),
 )
 
 same-length : tie.Need-same-length Inv-loop μ-loop
-same-length c = omega (arith, c .before .loop .inv .1 .long)
+same-length c = omega (arith, c .before .loop .inv .1 .onward .lefts)
 
 same-length-2 : tie.Need-same-length-2 Inv-loop μ-loop
-same-length-2 c = omega (arith, c .before .loop .inv .1 .long, c .before .loop .inv .1 .room .right-long, c .before .before .before .before .before .before .before .before .before .pre .1 .right-long)
+same-length-2 c = omega (arith, c .before .loop .inv .1 .onward .rights)
 
 same-length-3 : tie.Need-same-length-3 Inv-loop μ-loop
-same-length-3 c = omega (arith, c .before .loop .inv .1 .long, c .before .loop .inv .1 .room .parent-long, c .before .before .before .before .before .before .before .before .before .pre .1 .parent-long)
+same-length-3 c = omega (arith, c .before .loop .inv .1 .onward .parents)
 
 same-length-4 : tie.Need-same-length-4 Inv-loop μ-loop
-same-length-4 c = omega (arith, c .before .loop .inv .1 .long, c .before .loop .inv .1 .room .child-long, c .before .before .before .before .before .before .before .before .before .pre .1 .child-long)
+same-length-4 c = omega (arith, c .before .loop .inv .1 .onward .children)
 
 same-length-5 : tie.Need-same-length-5 Inv-loop μ-loop
 same-length-5 c = omega (arith, c .before .loop .inv .1 .room .stood-long, c .before .before .before .before .before .before .before .before .before .pre .1 .stood-long)

@@ -1,8 +1,8 @@
 -- `cleaner::rank::keep_rows` meets its contract: the others behind the samples, and the places of all.
-use mathlib.Core.Path.{refl, sym, ap, _∙_}
+use mathlib.Core.Path.{sym, _∙_}
 use Prim.Native.Nat.{_-_}
-use lib.ListN.{length, take, drop, length-take, length-drop}
-use Rattle.cleaner.proofs.Ranking.{cut, kept-front, kept-long, kept-inside, none-inside, kept-rows}
+use lib.ListN.{length, drop, length-take, length-drop}
+use Rattle.cleaner.proofs.Ranking.{cut, kept-long, kept-inside, none-inside, kept-rows}
 use native.Mathlib.Omega.{arith}
 use borrow.Author.Needs.{needs}
 use Rattle.cleaner.proofs.rank.keep_rows.Statement.{statement}

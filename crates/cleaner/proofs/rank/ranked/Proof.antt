@@ -1,6 +1,5 @@
 -- `cleaner::rank::ranked` meets its contract: the rows, sorted.
 use Rattle.cleaner.proofs.Ranking.{iota-inside, from-iota}
-use native.Mathlib.Omega.{arith}
 use borrow.Author.Needs.{needs}
 use Rattle.cleaner.proofs.rank.ranked.Statement.{statement}
 use Rattle.cleaner.proofs.rank.ranked.Tie as tie
@@ -8,14 +7,20 @@ use Rattle.cleaner.proofs.rank.ranked.Tie as tie
 iota-requires : tie.Need-iota-requires
 iota-requires c κs = search needs
 
-sort-rows-requires : tie.Need-sort-rows-requires
-sort-rows-requires c κs = (c .before .before .before .before .before .before .before .before .before .before .pre .0, iota-inside _ _ _ (c .before .before .before .iota .ensures) (c .before .before .before .before .before .before .before .before .before .before .pre .1))
+sort-one-requires : tie.Need-sort-one-requires
+sort-one-requires c κs = iota-inside _ _ _ (c .before .before .before .iota .ensures) (c .before .before .before .before .before .before .before .pre .0)
 
 same-length : tie.Need-same-length
 same-length c = search needs
 
 returns : tie.Need-returns
-returns c = from-iota _ _ _ _ (c .before .before .before .before .before .before .iota .ensures) (c .before .before .before .before .before .before .before .before .before .before .before .before .before .pre .1) (c .before .before .sort-rows .ensures)
+returns c = from-iota _ _ _ _ (c .before .before .before .before .before .before .iota .ensures) (c .before .before .before .before .before .before .before .before .before .before .pre .0) (c .before .before .sort-one .ensures)
 
 pub ranked-spec : {M : Type 1} → statement M
-ranked-spec = tie.close (tie.spec iota-requires sort-rows-requires same-length returns)
+ranked-spec =
+    tie.close
+    (tie.spec
+    iota-requires
+    sort-one-requires
+    same-length
+    returns)

@@ -1,5 +1,5 @@
 -- `cleaner::store::write_sites` meets its contract: one column after the other.
-use mathlib.Core.Path.{sym, ap, _∙_}
+use mathlib.Core.Path.{ap, _∙_}
 use lib.ListN.{length}
 use lib.Seq.{take-length, take-all}
 use Rattle.meaning.specs.Answer.{put}
