@@ -1,15 +1,17 @@
 -- What an answer leaves: after a refusal nothing is altered, after 0 the result stands at the front.
-use mathlib.Core.Path.{_≡_, refl}
-use mathlib.Core.Bool.{false}
+use mathlib.Core.Path.{_≡_, refl, sym, ap, _∙_}
+use mathlib.Core.Bool.{Bool, true, false}
 use mathlib.Core.List.{List}
 use Prim.Native.Nat.{ℕ}
 use lib.ListN.{length}
 use Rattle.meaning.specs.Rows.{Tables}
-use Rattle.meaning.specs.Answer.{Answer, done, accepted, put, left-by}
+use Rattle.meaning.specs.Answer.{Answer, Stated, done, accepted, put, left-by, given, absent, unread}
 use Rattle.meaning.specs.Lent.{no-rows-written, rowsIn, putAll, countsBy, cellsBy}
 use Rattle.meaning.specs.Clean.{cleanEnd}
 use Rattle.meaning.specs.Join.{joinEnd}
 use Rattle.meaning.specs.Files.{ifDone, handed, laid}
+use Rattle.meaning.specs.Allele.{stated}
+use Rattle.laws.specs.Bools.{clash}
 
 -- ---- "after a refusal all but number and row are 0 and all lent cells keep their values"
 
@@ -30,6 +32,10 @@ module _ (a : Answer) (refused : accepted a ≡ false) where
   unfolding laid ifDone left-by
   write-refused new out = rw (refused, ifDone, left-by)
 
+  pub allele-refused : (missing : Bool) (s : ℕ) → stated a missing s ≡ unread a
+  unfolding stated
+  allele-refused missing s = rw (refused, stated)
+
 -- ---- "the result stands at the front of each output, and cells past it keep their values"
 
 pub clean-done : (new : Tables) (newMap : List ℕ) (out : Tables) (outMap : List ℕ) → cleanEnd done new newMap out outMap ≡ record { answer = done; counts = rowsIn new; cells = putAll new out; map = put newMap outMap }
@@ -47,3 +53,50 @@ read-done L T S out listOut = refl
 pub write-done : (new out : List ℕ) → laid done new out ≡ record { answer = done; bytes = length new; cells = put new out }
 unfolding laid ifDone left-by accepted
 write-done new out = refl
+
+-- ---- an allele's answer 0: a state, or missing
+
+state-given : (s : ℕ) → stated done false s ≡ given s
+unfolding stated accepted
+state-given s = refl
+
+state-absent : (s : ℕ) → stated done true s ≡ absent
+unfolding stated accepted
+state-absent s = refl
+
+pub gives : (a : Answer) (missing : Bool) (s v : ℕ) → a ≡ done → missing ≡ false → s ≡ v → stated a missing s ≡ given v
+gives a missing s v p q r = rw (p, q, r) (state-given v)
+
+pub gives-none : (a : Answer) (missing : Bool) (s : ℕ) → a ≡ done → missing ≡ true → stated a missing s ≡ absent
+gives-none a missing s p q = rw (p, q) (state-absent s)
+
+stated-answer : (a : Answer) (missing : Bool) (s : ℕ) → stated a missing s .answer ≡ a
+unfolding stated
+stated-answer a missing s = go (accepted a) refl
+  where
+    go : (t : Bool) → accepted a ≡ t → stated a missing s .answer ≡ a
+    go true e = rw (e, stated)
+    go false e = rw (e, stated)
+
+-- the answer is 0 where what is read is a state or missing
+answer-zero : (a : Answer) (missing : Bool) (s : ℕ) (r : Stated) → stated a missing s ≡ r → r .answer ≡ done → a ≡ done
+answer-zero a missing s r e q = sym (stated-answer a missing s) ∙ ap (λ (r : Stated). r .answer) e ∙ q
+
+pub of-given : (a : Answer) (missing : Bool) (s v : ℕ) → stated a missing s ≡ given v → (a ≡ done) × (missing ≡ false) × (s ≡ v)
+of-given a missing s v e =
+    let q : a ≡ done = answer-zero a missing s (given v) e refl in
+    let d : stated done missing s ≡ given v = ap (λ (a : Answer). stated a missing s) (sym q) ∙ e in
+    let r : (missing ≡ false) × (s ≡ v) = go missing d in (q, r .0, r .1)
+  where
+    go : (m : Bool) → stated done m s ≡ given v → (m ≡ false) × (s ≡ v)
+    go true d = absurd (clash refl (ap (λ (r : Stated). r .missing) (sym (state-absent s) ∙ d)))
+    go false d = (refl, ap (λ (r : Stated). r .state) (sym (state-given s) ∙ d))
+
+pub of-absent : (a : Answer) (missing : Bool) (s : ℕ) → stated a missing s ≡ absent → (a ≡ done) × (missing ≡ true)
+of-absent a missing s e =
+    let q : a ≡ done = answer-zero a missing s absent e refl in
+    (q, go missing (ap (λ (a : Answer). stated a missing s) (sym q) ∙ e))
+  where
+    go : (m : Bool) → stated done m s ≡ absent → m ≡ true
+    go true d = refl
+    go false d = ap (λ (r : Stated). r .missing) (sym (state-given s) ∙ d)

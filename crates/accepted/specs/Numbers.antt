@@ -100,11 +100,12 @@ checked-one c d e = sym (checked-is c) ∙ ap checked-named e ∙ checked-is d
 -- ---- the allele call's answer
 
 abbrev allele-named : Stated → Allele
-allele-named a = elim (accepted (a .answer)) [ true ↦ allele.State (a .state) | false ↦ allele.Refused (named (a .answer)) ]
+allele-named a = elim (accepted (a .answer)) [ true ↦ elim (a .missing) [ true ↦ allele.Missing | false ↦ allele.State (a .state) ] | false ↦ allele.Refused (named (a .answer)) ]
 
 allele-is : (c : Allele) → allele-named (alleleOf c) ≡ c
 unfolding accepted
 allele-is (allele.State s) = refl
+allele-is allele.Missing = refl
 allele-is (allele.Refused r) = rw (refusal-refuses r, allele-named) (ap allele.Refused (named-is r .1))
 
 pub allele-one : (c d : Allele) → alleleOf c ≡ alleleOf d → c ≡ d

@@ -1,6 +1,5 @@
--- The whole allele call: the check of the tables, and then 41, 42 or the state.
+-- The whole allele call: the check of the tables, and then 41, 42 or what is read.
 use mathlib.Core.Path.{_≡_, sym, ap, _∙_}
-use mathlib.Core.Bool.{Bool, true, false}
 use mathlib.Core.List.{List}
 use Prim.Native.Nat.{ℕ, _≤_}
 use native.Mathlib.Omega.{arith}
@@ -9,16 +8,17 @@ use Rattle.meaning.specs.declared.Refusal.{Refusal}
 use Rattle.meaning.specs.declared.Checked.{Checked}
 use Rattle.meaning.specs.declared.Checked.the-variants as checked
 use Rattle.meaning.specs.Rows.{Tables, recordOf}
-use Rattle.meaning.specs.Answer.{Answer, Stated, done, limits, refusalOf, checkedOf}
+use Rattle.meaning.specs.Answer.{Answer, Stated, done, limits, refusalOf, checkedOf, unread}
 use Rattle.meaning.specs.Check.{checkThen}
-use Rattle.meaning.specs.Allele.{alleleAt, alleleAnswer, allele}
+use Rattle.meaning.specs.Allele.{alleleAt, missingAt, alleleAnswer, allele}
+use Rattle.accepted.specs.Endings.{allele-refused}
 use Rattle.checker.specs.Found.{TablesSound, Ordered}
 use Rattle.checker.proofs.After.{Hands, hands, tables-after, refused, stops, goes-on, was-sound}
 use Rattle.checker.proofs.Rows.{edge-whole, rising, lined, apart}
 use Rattle.checker.proofs.Sound.{tables-sound}
 use Rattle.rules.specs.ByChild.{ByChild}
 use Rattle.alleles.specs.Reading.{Readable}
-use Rattle.alleles.specs.Call.{stated, named, readAllele}
+use Rattle.alleles.specs.Call.{named, readOf, readAllele}
 
 -- tables that the check does not refuse can be read
 readable : (L : ℕ) (T : Tables) (by : List ℕ) → TablesSound limits L T → ByChild (T .edges) by → Readable L T by
@@ -55,17 +55,15 @@ module _ (L : ℕ) (T : Tables) (c : Checked) (e : checkedOf c ≡ checkThen lim
     births-room n m l = omega (arith, sound-readable .few, sound-readable .births-long)
 
   module _ (i b : ℕ) where
-    -- the call's answer and state by the answer after the check
-    by-check : (a : Answer) → checkThen limits L T (named T i b) ≡ a → allele limits L T i b ≡ stated a (alleleAt (recordOf L T) i b)
-    unfolding allele alleleAnswer named stated
-    by-check a q = ap (λ (a : Answer). stated a (alleleAt (recordOf L T) i b)) q
+    -- the call's answer and what is read, by the answer after the check
+    by-check : (a : Answer) → checkThen limits L T (named T i b) ≡ a → allele limits L T i b ≡ readOf L T i b a
+    unfolding allele alleleAnswer named
+    by-check a q = ap (readOf L T i b) q
 
-    stated-refused : (r : Refusal) → stated (refusalOf r) (alleleAt (recordOf L T) i b) ≡ record { answer = refusalOf r; state = 0 }
-    unfolding stated
-    stated-refused r = ap (λ (t : Bool). record { answer = refusalOf r; state = elim t [ true ↦ alleleAt (recordOf L T) i b | false ↦ 0 ] }) (refused r)
-
-    pub whole-refused : (r : Refusal) → c ≡ checked.Refused r → _≡_ {A = Stated} (record { answer = refusalOf r; state = 0 }) (allele limits L T i b)
-    whole-refused r q = sym (by-check (refusalOf r) (sym (stops (checkThen limits L T) hand c e r q (named T i b)) ∙ ap checkedOf q) ∙ stated-refused r)
+    pub whole-refused : (r : Refusal) → c ≡ checked.Refused r → _≡_ {A = Stated} (unread (refusalOf r)) (allele limits L T i b)
+    whole-refused r q = sym
+        (by-check (refusalOf r) (sym (stops (checkThen limits L T) hand c e r q (named T i b)) ∙ ap checkedOf q)
+        ∙ allele-refused (refusalOf r) (refused r) (missingAt (recordOf L T) i b) (alleleAt (recordOf L T) i b))
 
     pub whole-read : (s : Stated) → c ≡ checked.Sound → s ≡ readAllele L T i b → s ≡ allele limits L T i b
     unfolding readAllele

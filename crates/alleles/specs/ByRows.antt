@@ -1,16 +1,16 @@
 -- What is read by rows from the columns of a site is the allele of the definitions, which speak of births.
 use mathlib.Core.Path.{_≡_, refl, sym, ap, _∙_}
-use mathlib.Core.Bool.{Bool, true, false}
+use mathlib.Core.Bool.{Bool, true, false, not}
 use mathlib.Core.List.{List}
 use mathlib.Core.Option.{Option, none, some}
 use Prim.Native.Nat.{ℕ, _<_, _≤_}
 use native.Mathlib.Omega.{arith}
 use lib.Dec.{eqb}
 use lib.ListN.{length}
-use Rattle.meaning.specs.Words.{at}
+use Rattle.meaning.specs.Words.{at, or}
 use Rattle.meaning.specs.Rows.{EdgeColumns, MutationColumns, Tables, Record, recordOf, edgesOf, sitesOf, mutsOf, posOf, stateOf}
 use Rattle.meaning.specs.Forest.{Ages, parentIn, near}
-use Rattle.meaning.specs.Allele.{carries, lastState, alleleAt}
+use Rattle.meaning.specs.Allele.{carries, lastState, alleleAt, hasParent, hasChild, found, missingAt}
 use Rattle.laws.specs.Counting.{length-rows, get-rows}
 use Rattle.bridge.specs.Parents.{parentRow}
 use Rattle.bridge.specs.Rename.{mapOption, Renamed, near-names, near-inside}
@@ -20,6 +20,7 @@ use Rattle.ancestry.specs.Index.{Ends}
 use Rattle.ancestry.specs.Rises.{parent-rises}
 use Rattle.alleles.specs.Marks.{marked, Naming, mark, marksOf, statesOf}
 use Rattle.alleles.specs.Reading.{Climbable, carriedBy, Readable}
+use Rattle.alleles.specs.Alone.{childRow, missingRow, parent-there, child-there}
 
 -- ---- the columns, cell by cell
 
@@ -136,3 +137,16 @@ module _ (L : ℕ) (T : Tables) (by : List ℕ) (ok : Readable L T by) (i m : �
               ∙ ap (lastState i w (mutsOf (λ r. r) (T .muts))) (sym (state-at (T .sites) i exists))
               ∙ sym (last-names (T .nodes .birth) (ok .once) (T .muts) node-row i w l (stateOf (sitesOf (T .sites)) i))
               ∙ sym (allele-some (recordOf L T) i (at (T .nodes .birth) u) (at (T .nodes .birth) w) (nearest ∙ ap (mapOption (at (T .nodes .birth))) e))
+
+      -- and the fish is missing exactly if its row is
+      pub missing-row : missingRow (T .edges) (at (T .sites .position) i) has u ≡ missingAt (recordOf L T) i (at (T .nodes .birth) u)
+      unfolding missingRow missingAt recordOf
+      missing-row =
+          let l : u < n = omega (arith, ok .births-long) in
+          let E : _ = edgesOf (at (T .nodes .birth)) (T .edges) in
+          let b : ℕ = at (T .nodes .birth) u in
+          sym
+          (ap (λ p. not (or (hasParent E p b) (or (hasChild E p b) (carries (mutsOf (at (T .nodes .birth)) (T .muts)) i b)))) (pos-at (T .sites) i exists)
+          ∙ ap (λ t. not (or t (or (hasChild E x b) (carries (mutsOf (at (T .nodes .birth)) (T .muts)) i b)))) (parent-there (T .nodes .birth) (T .edges) (ok .once) within x u l)
+          ∙ ap (λ t. not (or (found (parentRow (T .edges) x u)) (or t (carries (mutsOf (at (T .nodes .birth)) (T .muts)) i b)))) (child-there (T .nodes .birth) (T .edges) (ok .once) within x u l)
+          ∙ ap (λ t. not (or (found (parentRow (T .edges) x u)) (or (childRow (T .edges .left) (T .edges .right) (T .edges .parent) x u) t))) (same-marks u l))

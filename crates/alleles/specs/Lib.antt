@@ -2,5 +2,6 @@
 pub mod Marks
 pub mod Reading
 pub mod Stops
+pub mod Alone
 pub mod ByRows
 pub mod Call

@@ -1,16 +1,18 @@
-// Reading one allele: the marks and last states of a site's mutations by node rows, and the state of the first marked row at or above a row.
+// Reading one allele: the marks and last states of a site's mutations by node rows, whether a row is missing there, and the state of the
+// first marked row at or above a row.
 ghost use mathlib.Core.Path.{_≡_};
 ghost use Prim.Native.Nat.{_<_};
 ghost use lib.ListN.{length, replicate, set};
 ghost use Rattle.meaning.specs.Words.{at, rows};
-ghost use Rattle.meaning.specs.Rows.{nodeTable, edgeTable, siteTable, mutationTable, tables, recordOf};
-ghost use Rattle.meaning.specs.Answer.{alleleOf, limits};
-ghost use Rattle.meaning.specs.Allele.{alleleAt, allele};
+ghost use Rattle.meaning.specs.Rows.{nodeTable, edgeTable, siteTable, mutationTable, tables};
+ghost use Rattle.meaning.specs.Answer.{alleleOf, done, limits};
+ghost use Rattle.meaning.specs.Allele.{allele};
 ghost use Rattle.order.specs.Ranks.{Ranked};
-ghost use Rattle.alleles.specs.Call.{readAllele};
+ghost use Rattle.alleles.specs.Call.{readOf, readAllele};
 ghost use Rattle.alleles.specs.Marks.{markAfter, stateAfter, Naming, marksOf, statesOf};
 ghost use Rattle.alleles.specs.Reading.{Readable};
 
+pub mod alone; // whether a row is missing at a position
 pub mod climb; // the first marked row at or above a row
 
 use meaning::Allele;
@@ -86,8 +88,8 @@ pub fn marks_at(
     fill(site, node, derived, i, has, state);
 }
 
-// The state that the fish of row u carries at site row i.
-pub fn state_of(
+// What the fish of row u carries at site row i: a state, or that it is missing there.
+pub fn row_allele(
     len: u32,
     time: &[u32],
     birth: &[u32],
@@ -103,7 +105,7 @@ pub fn state_of(
     by_child: &[u32],
     i: u32,
     u: u32,
-) -> u8
+) -> Allele
     requires { ⌜
         Readable len
         (tables
@@ -112,13 +114,13 @@ pub fn state_of(
         (siteTable (now position) (now ancestral))
         (mutationTable (now site) (now node) (now derived))) (now «by_child») × (i < length (now position)) × (u < length (now time)) ⌝ }
     ensures { λ r. ⌜
-        r
-        ≡ alleleAt (recordOf len
+        alleleOf r
+        ≡ readOf len
         (tables
         (nodeTable (now (time .entry)) (now (birth .entry)))
         (edgeTable (now (left .entry)) (now (right .entry)) (now (parent .entry)) (now (child .entry)))
         (siteTable (now (position .entry)) (now (ancestral .entry)))
-        (mutationTable (now (site .entry)) (now (node .entry)) (now (derived .entry))))) i (at (now (birth .entry)) u) ⌝ }
+        (mutationTable (now (site .entry)) (now (node .entry)) (now (derived .entry)))) i (at (now (birth .entry)) u) done ⌝ }
 {
     let x = position[i as usize];
     let other = ancestral[i as usize];
@@ -127,7 +129,22 @@ pub fn state_of(
     let mut state = [0u8; meaning::NodeTable::MOST];
     ancestry::index::fill_ends(left, right, parent, child, by_child, &mut ends);
     marks_at(site, node, derived, i, other, &mut has, &mut state);
-    climb::carried(
+    if alone::is_missing(
+        len,
+        time,
+        left,
+        right,
+        parent,
+        child,
+        by_child,
+        &ends,
+        &has,
+        x,
+        u,
+    ) {
+        return Allele::Missing;
+    }
+    Allele::State(climb::carried(
         len,
         time,
         left,
@@ -141,7 +158,7 @@ pub fn state_of(
         other,
         x,
         u,
-    )
+    ))
 }
 
 // The allele of the fish b at site row i, of tables that the check does not refuse, with the orders that it leaves.
@@ -186,7 +203,7 @@ fn read_allele(
     if birth.len() <= u {
         return Allele::Refused(Refusal::NoBirth);
     }
-    Allele::State(state_of(
+    row_allele(
         len,
         time,
         birth,
@@ -202,7 +219,7 @@ fn read_allele(
         by_child,
         i,
         u as u32,
-    ))
+    )
 }
 
 // The check of the tables, which leaves the edges by child and the nodes by birth in lent columns, and then the allele.
@@ -274,7 +291,7 @@ fn allele_lent(
     }
 }
 
-// 01's allele call: the state that the fish b carries at site row i, or the refusal.
+// 01's allele call: the state that the fish b carries at site row i, that it is missing there, or the refusal.
 pub fn allele(
     len: u32,
     time: &[u32],

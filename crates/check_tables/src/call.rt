@@ -13,8 +13,8 @@ pub struct Answer {
 }
 
 impl Answer {
-    // The number of an answer that 01 does not give to these calls.
-    pub const STRANGE: usize = 1000;
+    // Stands for the state of a fish that is missing: no byte.
+    pub const MISSING: u32 = 256;
 }
 
 fn said(number: usize, row: usize) -> Answer {
@@ -44,6 +44,11 @@ fn read(a: Allele) -> Answer {
             number: 0,
             row: 0,
             state: v as u32,
+        },
+        Allele::Missing => Answer {
+            number: 0,
+            row: 0,
+            state: Answer::MISSING,
         },
         Allele::Refused(r) => refusal(r),
     }

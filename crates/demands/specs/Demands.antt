@@ -9,7 +9,7 @@ use Rattle.meaning.specs.Words.{at, mem}
 use Rattle.meaning.specs.Rows.{Tables, Edge, nodeAt, recordOf}
 use Rattle.meaning.specs.Forest.{stands}
 use lib.Dec.{ltb}
-use Rattle.meaning.specs.Answer.{Answer, Limits, done, limits, accepted, refuse, lacks, put}
+use Rattle.meaning.specs.Answer.{Answer, Limits, done, limits, accepted, refuse, lacks, put, given, absent, unread}
 use Rattle.meaning.specs.Lent.{no-rows-written, rowsIn, putAll, fitThen, blockThen}
 use Rattle.meaning.specs.Check.{check, checkAllThen}
 use Rattle.meaning.specs.Clean.{cleaned, nodeMap, cleanEnd, cleanFit, cleanAnswer, cleaning}
@@ -34,7 +34,7 @@ use Rattle.results.specs.Published.{induced-subtrees, no-unary-vertices, only-a
 use Rattle.results.specs.Meetings.{Meeting, meeting-kept, only-meetings}
 use Rattle.results.specs.NodeTable as node-table
 use Rattle.results.specs.NodeTable.{Mapped}
-use Rattle.results.specs.Cleaning.{cleaned-passes, cleaned-allele-call, cleaned-twice}
+use Rattle.results.specs.Cleaning.{cleaned-passes, same-answer, cleaned-gives, cleaned-absent, cleaned-isolated, cleaned-twice}
 use Rattle.results.specs.Joining.{Together, joined-rows, joined-passes}
 use Rattle.demands.specs.First as first
 use Rattle.demands.specs.Listed.{file-shown}
@@ -74,7 +74,7 @@ pub refused-writing-alters-no-byte : (m : Limits) (L : ℕ) (T : Tables) (S out 
 refused-writing-alters-no-byte = first.refused-writing 2
 
 -- the check and the allele call are lent no cell to write: the one gives a number and a row (`check`), the other a state too
-pub refused-allele-gives-no-state : (m : Limits) (L : ℕ) (T : Tables) (site birth : ℕ) → accepted (alleleAnswer m L T site birth) ≡ false → allele m L T site birth ≡ record { answer = alleleAnswer m L T site birth; state = 0 }
+pub refused-allele-gives-no-state : (m : Limits) (L : ℕ) (T : Tables) (site birth : ℕ) → accepted (alleleAnswer m L T site birth) ≡ false → allele m L T site birth ≡ unread (alleleAnswer m L T site birth)
 refused-allele-gives-no-state = first.refused-allele
 
 -- ---- 2. "What a cleaning gives is what the published method defines"
@@ -144,9 +144,21 @@ module _ (m : Limits) (L : ℕ) (T : Tables) (S : List ℕ) (out : Tables) (outM
   pub map-by-birth : (i : ℕ) → i < length (T .nodes .birth) → Mapped (cleaned stands L T S .nodes .birth) (at (T .nodes .birth) i) (at (nodeMap stands L T S) i)
   map-by-birth = node-table.map-rows stands stands-profile m L T S out outMap cells taken u32
 
-  -- "with each sample carrying the allele that it had"
-  pub allele-kept : (site sample : ℕ) → In S sample → allele m L (cleaned stands L T S) site sample ≡ allele m L T site sample
-  allele-kept = cleaned-allele-call stands stands-profile m L T S out outMap cells taken u32
+  -- "with each sample carrying the allele that it had": since M-103, "wherever the cleaned tables give a state, the input gives the same",
+  pub allele-kept : (site sample state : ℕ) → In S sample → allele m L (cleaned stands L T S) site sample ≡ given state → allele m L T site sample ≡ given state
+  allele-kept = cleaned-gives stands stands-profile m L T S out outMap cells taken u32
+
+  -- a sample that is missing stays so,
+  pub missing-kept : (site sample : ℕ) → In S sample → allele m L T site sample ≡ absent → allele m L (cleaned stands L T S) site sample ≡ absent
+  missing-kept = cleaned-absent stands stands-profile m L T S out outMap cells taken u32
+
+  -- one that cleaning isolates (`isolated` in Shown has one) had the ancestral state,
+  pub isolated-was-ancestral : (site sample : ℕ) → In S sample → allele m L (cleaned stands L T S) site sample ≡ absent → (allele m L T site sample ≡ absent) ⊎ (allele m L T site sample ≡ given (at (T .sites .ancestral) site))
+  isolated-was-ancestral = cleaned-isolated stands stands-profile m L T S out outMap cells taken u32
+
+  -- and the call is refused for both alike
+  pub allele-answer-kept : (site sample : ℕ) → In S sample → alleleAnswer m L (cleaned stands L T S) site sample ≡ alleleAnswer m L T site sample
+  allele-answer-kept = same-answer stands stands-profile m L T S out outMap cells taken u32
 
   -- cleaning twice changes nothing more, and cleaned tables pass the check
   pub cleaned-is-clean : cleaned stands L (cleaned stands L T S) S ≡ cleaned stands L T S

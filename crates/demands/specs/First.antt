@@ -6,15 +6,15 @@ use Prim.Native.Nat.{ℕ}
 use lib.ListN.{length}
 use Rattle.meaning.specs.Rows.{Tables, recordOf}
 use Rattle.meaning.specs.Forest.{Rules}
-use Rattle.meaning.specs.Answer.{Answer, Limits, accepted, left-by}
+use Rattle.meaning.specs.Answer.{Answer, Limits, accepted, left-by, unread}
 use Rattle.meaning.specs.Lent.{no-rows-written, countsBy, cellsBy}
 use Rattle.meaning.specs.Clean.{cleaned, nodeMap, cleanAnswer, cleaning, cleanEnd}
 use Rattle.meaning.specs.Join.{BatchTables, joined, joinAnswer, joining, joinEnd}
-use Rattle.meaning.specs.Allele.{alleleAnswer, alleleAt, allele}
+use Rattle.meaning.specs.Allele.{alleleAnswer, missingAt, alleleAt, allele}
 use Rattle.meaning.specs.Called.{packed, blockBy, cleanCall, joinCall}
 use Rattle.meaning.specs.Stored.{number, form, formThen}
 use Rattle.meaning.specs.Files.{handed, laid, roomAnswer, found, tablesIn, samplesIn, reading, written, writeAnswer, writing}
-use Rattle.accepted.specs.Endings.{clean-refused, join-refused, read-refused, write-refused}
+use Rattle.accepted.specs.Endings.{clean-refused, join-refused, read-refused, write-refused, allele-refused}
 
 module _ (rule : Rules) (m : Limits) (L : ℕ) (T : Tables) (S : List ℕ) (out : Tables) (outMap : List ℕ) where
   pub refused-cleaning : (cells : ℕ) → accepted (cleanAnswer rule m L T S out outMap cells) ≡ false →
@@ -55,6 +55,6 @@ unfolding writing
 refused-writing w m L T S out r = write-refused (writeAnswer w m L T S (length out)) r (written w m L T S) out
 
 -- the allele call lends nothing out: a refusal gives no state
-pub refused-allele : (m : Limits) (L : ℕ) (T : Tables) (site birth : ℕ) → accepted (alleleAnswer m L T site birth) ≡ false → allele m L T site birth ≡ record { answer = alleleAnswer m L T site birth; state = 0 }
+pub refused-allele : (m : Limits) (L : ℕ) (T : Tables) (site birth : ℕ) → accepted (alleleAnswer m L T site birth) ≡ false → allele m L T site birth ≡ unread (alleleAnswer m L T site birth)
 unfolding allele
-refused-allele m L T site birth r = ap (λ (t : Bool). record { answer = alleleAnswer m L T site birth; state = elim t [ true ↦ alleleAt (recordOf L T) site birth | false ↦ 0 ] }) r
+refused-allele m L T site birth r = allele-refused (alleleAnswer m L T site birth) r (missingAt (recordOf L T) site birth) (alleleAt (recordOf L T) site birth)

@@ -1,4 +1,4 @@
--- Demand 3 is not empty, and its premise is needed: two proved cases on 01's listing.
+-- Demand 3 is not empty, and its premise is needed: two proved cases on 01's listing; and cleaning can isolate a fish.
 use mathlib.Core.Path.{_≡_, refl}
 use mathlib.Core.Bool.{Bool, true, false}
 use mathlib.Core.List.{List, [], _∷_}
@@ -9,8 +9,9 @@ use lib.ListN.{replicate}
 use Rattle.meaning.specs.Words.{mem}
 use Rattle.meaning.specs.Rows.{Tables}
 use Rattle.meaning.specs.Forest.{stands}
-use Rattle.meaning.specs.Answer.{limits, done}
+use Rattle.meaning.specs.Answer.{limits, done, given, absent}
 use Rattle.meaning.specs.Clean.{cleaned, cleanAnswer}
+use Rattle.meaning.specs.Allele.{allele}
 use Rattle.meaning.specs.Join.{BatchTables, joined, joinAnswer}
 use Rattle.meaning.specs.Listing.{listing}
 use Rattle.laws.specs.Bools.{clash}
@@ -95,3 +96,22 @@ pub record PremiseNeeded : Type 0 where
 pub premise-needed : PremiseNeeded
 unfolding cleaned stands
 premise-needed = record { after-first-cleaning = refl; from-raw-input = refl }
+
+-- "Cleaning can isolate a fish": 7 hangs below 8 alone, which does not stand for the samples 7, so that the cleaned tables give 7 no parent
+abbrev pub lone : Tables
+lone = record {
+  nodes = record { time = 0 ∷ 1 ∷ []; birth = 7 ∷ 8 ∷ [] };
+  edges = record { left = 0 ∷ []; right = 10 ∷ []; parent = 1 ∷ []; child = 0 ∷ [] };
+  sites = record { position = 3 ∷ []; ancestral = 65 ∷ [] };
+  muts = record { site = []; node = []; derived = [] };
+}
+
+-- so what the cleaned tables leave open the input may still tell: `allele-kept` does not hold the other way round
+pub record Isolated : Type 0 where
+  pub not-refused : cleanAnswer stands limits 10 lone (7 ∷ []) room cells 4 ≡ done
+  pub input-gives : allele limits 10 lone 0 7 ≡ given 65
+  pub cleaned-gives-none : allele limits 10 (cleaned stands 10 lone (7 ∷ [])) 0 7 ≡ absent
+
+pub isolated : Isolated
+unfolding cleanAnswer cleaned stands allele
+isolated = record { not-refused = refl; input-gives = refl; cleaned-gives-none = refl }

@@ -1,4 +1,4 @@
--- 01, "Allele": cleaning changes no sample's allele.
+-- 01, "Allele": cleaning changes no sample's state, as far as it has one (`Missing`).
 use mathlib.Core.Path.{_≡_, refl, sym, ap, _∙_}
 use mathlib.Core.Bool.{Bool, true, false}
 use mathlib.Core.List.{List}
@@ -49,7 +49,7 @@ module _ (R : Record) (i b : ℕ) where
   abbrev state : Option ℕ → ℕ
   state o = elim o [ none ↦ stateOf (R .sites) i | some w ↦ lastState i w (R .muts) (stateOf (R .sites) i) ]
 
-  allele-none : carrier ≡ none → alleleAt R i b ≡ stateOf (R .sites) i
+  pub allele-none : carrier ≡ none → alleleAt R i b ≡ stateOf (R .sites) i
   unfolding alleleAt
   allele-none e = ap state e
 
@@ -89,7 +89,8 @@ module _ (rule : Rules) (pr : Profile rule) (R : Record) (S : List ℕ) (ok : Cl
   unfolding lowAt standsAt
   low-has u s m a = of-low P (timeOf (R .nodes)) aged (births (R .nodes)) (good-nodes R (ok .good) x) S K (rule-at rule pr R S ok x) Ages u (omega (arith, ok .good .young u)) (s, m, a)
 
-  came : (w : ℕ) → carries (moved pos G (R .muts)) i w ≡ true → (u : ℕ) × (carries (R .muts) i u ≡ true) × Low P K w u
+  -- what carries a moved mutation is the nearest standing fish below one that carried it
+  pub came : (w : ℕ) → carries (moved pos G (R .muts)) i w ≡ true → (u : ℕ) × (carries (R .muts) i u ≡ true) × Low P K w u
   came w h = let r : _ = carried-from i pos G w (R .muts) h in (r .0, r .1, low-at (r .0) w (r .2))
 
   abbrev Proper : ℕ → ℕ → Type 0
@@ -178,7 +179,7 @@ module _ (rule : Rules) (pr : Profile rule) (R : Record) (S : List ℕ) (ok : Cl
             go none e = refl
             go (some w) e = absurd (h w (near-in (near-of F c Ages w s e)))
 
-    -- "Cleaning changes no sample's allele."
+    -- "Cleaning changes no sample's allele.": the way upwards leads to the same state
     pub clean-allele : alleleAt (clean rule S R) i s ≡ alleleAt R i s
     clean-allele = ⊎-elim (λ (e : ltb x (R .len) ≡ true). on-it (ltb-true x (R .len) e)) (λ (e : ltb x (R .len) ≡ false). off-it (λ l. omega (arith, ltb-false x (R .len) e))) (truth (ltb x (R .len)))
 

@@ -18,5 +18,6 @@ pub mod Calls
 pub mod Pairs
 pub mod AtSite
 pub mod Alleles
+pub mod Missing
 pub mod Guests
 pub mod Witness

@@ -7,8 +7,8 @@ use Prim.Native.Nat.{ℕ, zero, suc, _+_, _-_, _<_, _≤_}
 use native.Mathlib.Omega.{arith}
 use lib.ListN.{length, getD}
 use lib.Seq.{ext-getD}
-use Rattle.meaning.specs.Words.{at, anyBelow, lowest, lowestFrom, rows, rowsFrom}
-use Rattle.laws.specs.Bools.{clash, truth, eq?}
+use Rattle.meaning.specs.Words.{at, any, anyBelow, lowest, lowestFrom, rows, rowsFrom}
+use Rattle.laws.specs.Bools.{clash, truth, eq?, bool-ext}
 
 -- ---- some row below n
 
@@ -177,3 +177,46 @@ map-from g f i (suc k) = ap (λ l. g (f i) ∷ l) (map-from g f (suc i) k)
 pub map-rows : {A B : Type 0} (g : A → B) (f : ℕ → A) (n : ℕ) → map g (rows f n) ≡ rows (λ j. g (f j)) n
 unfolding rows
 map-rows g f n = map-from g f 0 n
+
+-- ---- some row made by a function
+
+module _ {A : Type 0} (f : A → Bool) where
+  any-nil : any f [] ≡ false
+  unfolding any
+  any-nil = refl
+
+  pub any-hit : (a : A) (l : List A) → f a ≡ true → any f (a ∷ l) ≡ true
+  unfolding any
+  any-hit a l e = rw (e, any)
+
+  pub any-miss : (a : A) (l : List A) → f a ≡ false → any f (a ∷ l) ≡ any f l
+  unfolding any
+  any-miss a l e = rw (e, any)
+
+module _ {A : Type 0} (f : A → Bool) (g : ℕ → A) where
+  row-of-any : (i k : ℕ) → any f (rowsFrom g i k) ≡ true → (j : ℕ) × (j < i + k) × (f (g j) ≡ true)
+  unfolding rowsFrom
+  row-of-any i zero h = absurd (clash h (any-nil f))
+  row-of-any i (suc k) h = go (f (g i)) refl (λ q. row-of-any (suc i) k q)
+    where
+      go : (t : Bool) → f (g i) ≡ t → (any f (rowsFrom g (suc i) k) ≡ true → (j : ℕ) × (j < suc i + k) × (f (g j) ≡ true)) → (j : ℕ) × (j < i + suc k) × (f (g j) ≡ true)
+      go true e ih = (i, omega arith, e)
+      go false e ih = let r : _ = ih (sym (any-miss f (g i) (rowsFrom g (suc i) k) e) ∙ h) in (r .0, omega (arith, r .1), r .2)
+
+  any-of-row : (i k j : ℕ) → i ≤ j → j < i + k → f (g j) ≡ true → any f (rowsFrom g i k) ≡ true
+  unfolding rowsFrom
+  any-of-row i zero j a b e = absurd (omega arith)
+  any-of-row i (suc k) j a b e = go (f (g i)) refl (λ c d. any-of-row (suc i) k j c d e)
+    where
+      go : (t : Bool) → f (g i) ≡ t → (suc i ≤ j → j < suc i + k → any f (rowsFrom g (suc i) k) ≡ true) → any f (rowsFrom g i (suc k)) ≡ true
+      go true q ih = any-hit f (g i) (rowsFrom g (suc i) k) q
+      go false q ih =
+          let n : i ≡ j → ⊥ = λ z. clash e (ap (λ (m : ℕ). f (g m)) (sym z) ∙ q) in
+          any-miss f (g i) (rowsFrom g (suc i) k) q ∙ ⊎-elim (λ (z : i ≡ j). absurd (n z)) (λ (z : i ≡ j → ⊥). ih (omega arith) (omega arith)) (eq? i j)
+
+  -- some of n rows passes exactly if a row below n does
+  pub any-rows : (n : ℕ) → any f (rows g n) ≡ anyBelow (λ j. f (g j)) n
+  unfolding rows
+  any-rows n = bool-ext
+      (λ h. let r : _ = row-of-any 0 n h in of-below (λ j. f (g j)) n (r .0) (omega (arith, r .1)) (r .2))
+      (λ h. let r : _ = below-of (λ j. f (g j)) n h in any-of-row 0 n (r .0) (omega arith) (omega (arith, r .1)) (r .2))

@@ -123,11 +123,25 @@ abbrev pub checkedOf : Checked → Answer
 checkedOf checked.Sound = done
 checkedOf (checked.Refused r) = refusalOf r
 
--- an allele's answer, with its state: "after a refusal all but number and row are 0"
+-- an allele's answer: a state, or, by a kind of its own, that the fish is missing there; "after a refusal all but number and row are 0"
 pub record Stated : Type 0 where
   pub answer : Answer
+  pub missing : Bool
   pub state : ℕ
 
+-- a state is given
+abbrev pub given : ℕ → Stated
+given s = record { answer = done; missing = false; state = s }
+
+-- the fish is missing: "the state byte is then 0"
+abbrev pub absent : Stated
+absent = record { answer = done; missing = true; state = 0 }
+
+-- a refusal
+abbrev pub unread : Answer → Stated
+unread a = record { answer = a; missing = false; state = 0 }
+
 abbrev pub alleleOf : Allele → Stated
-alleleOf (allele.State s) = record { answer = done; state = s }
-alleleOf (allele.Refused r) = record { answer = refusalOf r; state = 0 }
+alleleOf (allele.State s) = given s
+alleleOf allele.Missing = absent
+alleleOf (allele.Refused r) = unread (refusalOf r)

@@ -4,7 +4,7 @@ use mathlib.Core.List.{List, [], _∷_}
 use Prim.Native.Nat.{ℕ}
 use Rattle.meaning.specs.Rows.{Tables}
 use Rattle.meaning.specs.Forest.{stands}
-use Rattle.meaning.specs.Answer.{Answer, Stated, answer, done, limits}
+use Rattle.meaning.specs.Answer.{Answer, answer, done, limits, given}
 use Rattle.meaning.specs.Check.{check}
 use Rattle.meaning.specs.Clean.{cleaning}
 use Rattle.meaning.specs.Allele.{allele}
@@ -87,8 +87,8 @@ pub record ByHand : Type 0 where
   -- the last two mutations exchanged: 10, row 2
   pub P9 : check limits 10 (with-muts (record { site = muts .site; node = 3 ∷ 2 ∷ 4 ∷ []; derived = 84 ∷ 71 ∷ 84 ∷ [] })) (501 ∷ 502 ∷ []) ≡ answer 10 2
   -- allele of 501 at site 1 is 71, of 502 is 84
-  pub P10-501 : allele limits 10 listing 1 501 ≡ record { answer = done; state = 71 }
-  pub P10-502 : allele limits 10 listing 1 502 ≡ record { answer = done; state = 84 }
+  pub P10-501 : allele limits 10 listing 1 501 ≡ given 71
+  pub P10-502 : allele limits 10 listing 1 502 ≡ given 84
 
 pub by-hand : ByHand
 unfolding cleaning stands check allele written shown

@@ -4,7 +4,7 @@ use mathlib.Core.List.{List, [], _∷_}
 use Prim.Native.Nat.{ℕ}
 use Rattle.meaning.specs.Rows.{NodeColumns, EdgeColumns, SiteColumns, MutationColumns, Tables}
 use Rattle.meaning.specs.Forest.{stands}
-use Rattle.meaning.specs.Answer.{Answer, answer, done, limits}
+use Rattle.meaning.specs.Answer.{Answer, answer, done, limits, given, absent}
 use Rattle.meaning.specs.Check.{check}
 use Rattle.meaning.specs.Clean.{cleaned}
 use Rattle.meaning.specs.Allele.{allele}
@@ -30,13 +30,39 @@ pub record Cleaning : Type 0 where
   -- "Edges (0,4) and (4,10) of one parent and child become one."
   pub touching-are-one : cleaned stands 10 touching (7 ∷ 8 ∷ []) .edges ≡ record { left = 0 ∷ []; right = 10 ∷ []; parent = 1 ∷ []; child = 0 ∷ [] }
   -- "the answer is the state of its last such row"
-  pub last-state : allele limits 10 twice-hit 1 501 ≡ record { answer = done; state = 92 }
+  pub last-state : allele limits 10 twice-hit 1 501 ≡ given 92
   -- mutations that meet on one node keep their order, and none is merged
   pub all-stay : cleaned stands 10 twice-hit (501 ∷ []) .muts ≡ record { site = 1 ∷ 1 ∷ 1 ∷ []; node = 0 ∷ 0 ∷ 0 ∷ []; derived = 90 ∷ 91 ∷ 92 ∷ [] }
 
 pub cleaning : Cleaning
 unfolding cleaned stands allele
 cleaning = record { touching-are-one = refl; last-state = refl; all-stay = refl }
+
+-- ---- missing
+
+-- 7 is the child of 8 over (0,4) only, and 9 is nobody's parent or child; 9 has a mutation at the second site
+abbrev pub scattered : Tables
+scattered = record {
+  nodes = record { time = 0 ∷ 1 ∷ 2 ∷ []; birth = 7 ∷ 8 ∷ 9 ∷ [] };
+  edges = record { left = 0 ∷ []; right = 4 ∷ []; parent = 1 ∷ []; child = 0 ∷ [] };
+  sites = record { position = 2 ∷ 6 ∷ []; ancestral = 65 ∷ 67 ∷ [] };
+  muts = record { site = 1 ∷ []; node = 2 ∷ []; derived = 71 ∷ [] };
+}
+
+pub record Missing : Type 0 where
+  -- a parent at the position, or a child there, and the fish has the ancestral state
+  pub with-parent : allele limits 10 scattered 0 7 ≡ given 65
+  pub founder : allele limits 10 scattered 0 8 ≡ given 65
+  -- where both are elsewhere it is missing
+  pub parent-elsewhere : allele limits 10 scattered 1 7 ≡ absent
+  pub child-elsewhere : allele limits 10 scattered 1 8 ≡ absent
+  -- a mutation of its own at the site gives it a state, one at another site does not
+  pub with-mutation : allele limits 10 scattered 1 9 ≡ given 71
+  pub mutation-elsewhere : allele limits 10 scattered 0 9 ≡ absent
+
+pub missing : Missing
+unfolding allele
+missing = record { with-parent = refl; founder = refl; parent-elsewhere = refl; child-elsewhere = refl; with-mutation = refl; mutation-elsewhere = refl }
 
 -- ---- the order of the refusals
 

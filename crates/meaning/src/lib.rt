@@ -125,9 +125,10 @@ pub enum Checked {
     Refused(Refusal),
 }
 
-// The allele call's answer.
+// The allele call's answer: a state, that the fish is missing there, which is no state, or a refusal.
 pub enum Allele {
     State(u8),
+    Missing,
     Refused(Refusal),
 }
 

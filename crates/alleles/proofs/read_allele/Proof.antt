@@ -2,7 +2,7 @@
 use mathlib.Core.Path.{sym}
 use native.Mathlib.Omega.{arith}
 use Rattle.alleles.specs.Call.{no-site}
-use Rattle.alleles.proofs.Calling.{row-exists, answer-state, answer-no-birth}
+use Rattle.alleles.proofs.Calling.{row-exists, answer-read, answer-no-birth}
 use borrow.Author.Needs.{needs}
 use Rattle.alleles.proofs.read_allele.Statement.{statement}
 use Rattle.alleles.proofs.read_allele.Tie as tie
@@ -16,14 +16,14 @@ row-of-requires c κs = record { ranked = λ e. c .before .before .before .befor
 returns-2 : tie.Need-returns-2
 returns-2 c = answer-no-birth _ _ _ _ (c .before .row-of .ensures) _ (c .before .before .if1 .left) (c .if2 .taken)
 
-cast-state-of : tie.Need-cast-state-of
-cast-state-of c = omega (arith, c .if2 .left, c .before .before .before .before .before .before .before .before .before .before .before .before .before .before .before .before .pre .0 .births-long, c .before .before .before .before .before .before .before .before .before .before .before .before .before .before .before .before .pre .0 .few)
+cast-row-allele : tie.Need-cast-row-allele
+cast-row-allele c = omega (arith, c .if2 .left, c .before .before .before .before .before .before .before .before .before .before .before .before .before .before .before .before .pre .0 .births-long, c .before .before .before .before .before .before .before .before .before .before .before .before .before .before .before .before .pre .0 .few)
 
-state-of-requires : tie.Need-state-of-requires
-state-of-requires c κs = (c .before .before .before .before .before .before .before .before .before .before .before .before .before .before .before .before .pre .0, c .before .before .if1 .left, row-exists _ _ _ _ (c .before .row-of .ensures) _ (c .before .before .before .before .before .before .before .before .before .before .before .before .before .before .before .before .pre .0) (c .if2 .left))
+row-allele-requires : tie.Need-row-allele-requires
+row-allele-requires c κs = (c .before .before .before .before .before .before .before .before .before .before .before .before .before .before .before .before .pre .0, c .before .before .if1 .left, row-exists _ _ _ _ (c .before .row-of .ensures) _ (c .before .before .before .before .before .before .before .before .before .before .before .before .before .before .before .before .pre .0) (c .if2 .left))
 
 returns-3 : tie.Need-returns-3
-returns-3 c = answer-state _ _ _ _ (c .before .before .row-of .ensures) _ _ (c .before .before .before .if1 .left) (c .before .if2 .left) (c .state-of .ensures)
+returns-3 c = answer-read _ _ _ _ (c .before .before .row-of .ensures) _ _ (c .before .before .before .if1 .left) (c .before .if2 .left) (c .row-allele .ensures)
 
 pub read-allele-spec : {M : Type 1} → statement M
 read-allele-spec =
@@ -32,6 +32,6 @@ read-allele-spec =
     returns
     row-of-requires
     returns-2
-    cast-state-of
-    state-of-requires
+    cast-row-allele
+    row-allele-requires
     returns-3)

@@ -1,0 +1,77 @@
+"""Writes the last group of stdin: alleles of random sound tables, by a second reading that goes through every edge for every answer.
+
+usage: python3 alleles.py     (in this folder; the seed is fixed, and what stands above the group stays as it is)
+
+A fish is missing at a site where no edge over the position names it and no mutation of the site is on it; 256, which is no byte, says so.
+"""
+import pathlib
+import random
+
+HEAD = "G alleles of random tables, by a second reading\n"
+TABLES = 180
+
+
+def tables(rng):
+    """L, node rows (time, birth), edge rows (left, right, parent, child), sites, mutations; parents are older, keys rise."""
+    length = rng.randint(2, 12)
+    count = rng.randint(1, 7)
+    times = rng.sample(range(20), count)
+    births = rng.sample(range(100), count)
+    edges = []
+    for child in range(count):
+        older = [p for p in range(count) if times[p] > times[child]]
+        cuts = sorted({0, length, *(rng.randint(0, length) for _ in range(rng.randint(0, 3)))})
+        for left, right in zip(cuts, cuts[1:]):
+            if older and rng.random() < 0.5:
+                edges.append((left, right, rng.choice(older), child))
+    edges.sort(key=lambda e: (times[e[2]], births[e[2]], births[e[3]], e[0]))
+    sites = [(x, rng.randint(0, 255)) for x in sorted(rng.sample(range(length), rng.randint(1, min(3, length))))]
+    mutations = []
+    for site in range(len(sites)):
+        hit = [rng.randrange(count) for _ in range(rng.choice((0, 0, 1, 2, 3)))]
+        for node in sorted(hit, key=lambda u: -times[u]):
+            mutations.append((site, node, rng.randint(0, 255)))
+    return length, list(zip(times, births)), edges, sites, mutations
+
+
+def allele(edges, sites, mutations, site, node):
+    """The state of a node row, or 256 where it is missing."""
+    x, state = sites[site]
+    over = [e for e in edges if e[0] <= x < e[1]]
+    mine = [m for m in mutations if m[0] == site]
+    if all(node not in (p, c) for _, _, p, c in over) and all(m[1] != node for m in mine):
+        return 256
+    while True:
+        on = [m[2] for m in mine if m[1] == node]
+        if on:
+            return on[-1]
+        up = [p for _, _, p, c in over if c == node]
+        if not up:
+            return state
+        node = up[0]
+
+
+def lines(rng):
+    length, nodes, edges, sites, mutations = tables(rng)
+    yield f"S 12 12 {length}"
+    columns = [[r[k] for r in rows] for rows, width in ((nodes, 2), (edges, 4), (sites, 2), (mutations, 3)) for k in range(width)]
+    for number, column in enumerate(columns):
+        yield " ".join(map(str, ["R", number, *column]))
+    yield "R 11"
+    for site in range(len(sites)):
+        for node in range(len(nodes)):
+            yield f"A {site} {nodes[node][1]} 0 0 {allele(edges, sites, mutations, site, node)}"
+
+
+def main():
+    path = pathlib.Path(__file__).with_name("stdin")
+    text = path.read_text()
+    if HEAD in text:
+        text = text[: text.index(HEAD)]
+    rng = random.Random(103)
+    made = [line for _ in range(TABLES) for line in lines(rng)]
+    path.write_text(text.rstrip("\n") + "\n\n" + HEAD + "\n".join(made) + "\n")
+
+
+if __name__ == "__main__":
+    main()
