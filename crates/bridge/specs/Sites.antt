@@ -9,8 +9,9 @@ use lib.ListN.{length}
 use Rattle.meaning.specs.Words.{and, at, any, rowsFrom, rows}
 use Rattle.meaning.specs.Rows.{Site, SiteColumns, Mutation, MutationColumns, sitesOf, mutsOf, posOf, stateOf}
 use Rattle.meaning.specs.Allele.{sits, carries, lastState}
+use Rattle.laws.specs.Counting.{any-rows}
 use Rattle.bridge.specs.Rename.{eqb-names}
-use Rattle.bridge.specs.Columns.{Apart}
+use Rattle.bridge.specs.Columns.{Apart, any-same}
 
 -- ---- sites
 
@@ -77,18 +78,13 @@ module _ (birth : List ℕ) (once : Apart birth) (M : MutationColumns) (known : 
   unfolding sits
   same-sits j h = ap (and (eqb (at (M .site) j) i)) (eqb-names (length birth) (at birth) once (at (M .node) j) v (known j h) l)
 
-  any-names : (k j : ℕ) → j + k ≤ length (M .site) → any (sits i (at birth v)) (rowsFrom (mutationRow (at birth) M) j k) ≡ any (sits i v) (rowsFrom (mutationRow (λ r. r) M) j k)
-  any-names zero j h = any-end i (at birth v) (mutationRow (at birth) M) j ∙ sym (any-end i v (mutationRow (λ r. r) M) j)
-  any-names (suc k) j h = go (sits i v (mutationRow (λ r. r) M j)) refl (any-names k (suc j) (omega arith))
-    where
-      go : (t : Bool) → sits i v (mutationRow (λ r. r) M j) ≡ t → any (sits i (at birth v)) (rowsFrom (mutationRow (at birth) M) (suc j) k) ≡ any (sits i v) (rowsFrom (mutationRow (λ r. r) M) (suc j) k) → any (sits i (at birth v)) (rowsFrom (mutationRow (at birth) M) j (suc k)) ≡ any (sits i v) (rowsFrom (mutationRow (λ r. r) M) j (suc k))
-      go true e ih = any-hit i (at birth v) (mutationRow (at birth) M) j k (same-sits j (omega arith) ∙ e) ∙ sym (any-hit i v (mutationRow (λ r. r) M) j k e)
-      go false e ih = any-miss i (at birth v) (mutationRow (at birth) M) j k (same-sits j (omega arith) ∙ e) ∙ ih ∙ sym (any-miss i v (mutationRow (λ r. r) M) j k e)
-
   -- a birth carries a mutation at site row i exactly if its row does
   pub carries-names : carries (mutsOf (at birth) M) i (at birth v) ≡ carries (mutsOf (λ r. r) M) i v
-  unfolding carries mutsOf rows
-  carries-names = any-names (length (M .site)) 0 (omega arith)
+  unfolding carries mutsOf
+  carries-names =
+      any-rows (sits i (at birth v)) (mutationRow (at birth) M) (length (M .site))
+      ∙ any-same (λ j. sits i (at birth v) (mutationRow (at birth) M j)) (λ j. sits i v (mutationRow (λ r. r) M j)) (length (M .site)) same-sits
+      ∙ sym (any-rows (sits i v) (mutationRow (λ r. r) M) (length (M .site)))
 
   from-names : (k j s : ℕ) → j + k ≤ length (M .site) → lastState i (at birth v) (rowsFrom (mutationRow (at birth) M) j k) s ≡ lastState i v (rowsFrom (mutationRow (λ r. r) M) j k) s
   from-names zero j s h = last-end i (at birth v) (mutationRow (at birth) M) j s ∙ sym (last-end i v (mutationRow (λ r. r) M) j s)

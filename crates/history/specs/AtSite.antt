@@ -12,6 +12,7 @@ use Rattle.meaning.specs.Rows.{Mutation}
 use Rattle.meaning.specs.Clean.{moved}
 use Rattle.meaning.specs.Allele.{sits, lastState, carries}
 use Rattle.laws.specs.Bools.{clash, truth, and-of, not-true}
+use Rattle.laws.specs.Counting.{any-hit, any-miss}
 use Rattle.laws.specs.Facts.{All, done, also}
 use Rattle.history.specs.Lists.{all-both}
 use Rattle.history.specs.Pairs.{put, Pairs, with-all}
@@ -26,12 +27,12 @@ module _ (i : ℕ) where
   of-sits b m e f = rw (eq-eqb (m .site) i e) (eq-eqb (m .node) b f)
 
   carries-now : (b : ℕ) (m : Mutation) (l : List Mutation) → sits i b m ≡ true → carries (m ∷ l) i b ≡ true
-  unfolding carries any
-  carries-now b m l e = rw (e, any)
+  unfolding carries
+  carries-now b m l e = any-hit (sits i b) m l e
 
   carries-skip : (b : ℕ) (m : Mutation) (l : List Mutation) → sits i b m ≡ false → carries (m ∷ l) i b ≡ carries l i b
-  unfolding carries any
-  carries-skip b m l e = rw (e, any)
+  unfolding carries
+  carries-skip b m l e = any-miss (sits i b) m l e
 
   carries-later : (b : ℕ) (m : Mutation) (l : List Mutation) → carries l i b ≡ true → carries (m ∷ l) i b ≡ true
   carries-later b m l h = ⊎-elim (λ (e : sits i b m ≡ true). carries-now b m l e) (λ (e : sits i b m ≡ false). carries-skip b m l e ∙ h) (truth (sits i b m))
