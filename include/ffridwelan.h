@@ -110,6 +110,9 @@ extern "C" {
  * Edge rows must be in the order of their keys: parent time, parent birth, child birth, left. (Edges in any other order
  * are put in it by ffr_join: give them as a batch to a base that has the sites alone.)
  * The output nodes are the samples in list order, then the others by time and birth number.
+ *
+ * Wherever the output gives a sample a state, the input gives the same. Cleaning can isolate a sample: where it is left with no
+ * parent, no child and no mutation of its own at a site, it is missing there, and the ancestral state is not told of it any more.
  */
 uint64_t ffr_clean(
     uint32_t length,                                         /* the chromosome's length */
