@@ -9,7 +9,7 @@ use Rattle.meaning.specs.Words.{at, mem}
 use Rattle.meaning.specs.Rows.{Tables, Edge, nodeAt, recordOf}
 use Rattle.meaning.specs.Forest.{stands}
 use lib.Dec.{ltb}
-use Rattle.meaning.specs.Answer.{Answer, Limits, done, limits, accepted, refuse, lacks, put, given, absent, unread}
+use Rattle.meaning.specs.Answer.{Answer, Limits, done, limits, storedLimits, accepted, refuse, lacks, put, given, absent, unread}
 use Rattle.meaning.specs.Lent.{no-rows-written, rowsIn, putAll, fitThen, blockThen}
 use Rattle.meaning.specs.Check.{check, checkAllThen}
 use Rattle.meaning.specs.Clean.{cleaned, nodeMap, cleanEnd, cleanFit, cleanAnswer, cleaning}
@@ -191,9 +191,9 @@ pub tables-give-back-file : (m : Limits) (file : List ℕ) (out : Tables) (listO
 tables-give-back-file = written-read 2
 
 -- the listing is the cleaning: of a file that is read and cleaned the program prints L, the cleaned tables and the map
-pub listing-is-cleaning : (file : List ℕ) → Accepted (reading 2 limits file blank (zeros (limits .samples)) .answer) →
-    cleanAnswer stands limits (number 4 file 2) (tablesIn (found 2 limits file)) (samplesIn (found 2 limits file)) blank (zeros (limits .nodes)) 4 ≡ done →
-    shown file ≡ listed (number 4 file 2) (cleaned stands (number 4 file 2) (tablesIn (found 2 limits file)) (samplesIn (found 2 limits file))) (nodeMap stands (number 4 file 2) (tablesIn (found 2 limits file)) (samplesIn (found 2 limits file)))
+pub listing-is-cleaning : (file : List ℕ) → Accepted (reading 2 storedLimits file blank (zeros (storedLimits .samples)) .answer) →
+    cleanAnswer stands limits (number 4 file 2) (tablesIn (found 2 storedLimits file)) (samplesIn (found 2 storedLimits file)) blank (zeros (storedLimits .nodes)) 4 ≡ done →
+    shown file ≡ listed (number 4 file 2) (cleaned stands (number 4 file 2) (tablesIn (found 2 storedLimits file)) (samplesIn (found 2 storedLimits file))) (nodeMap stands (number 4 file 2) (tablesIn (found 2 storedLimits file)) (samplesIn (found 2 storedLimits file)))
 listing-is-cleaning = file-shown
 
 -- ---- 3. "Clean after any batches you like and then at the end, or only at the end: the last four tables are equal, row for row.

@@ -5,7 +5,7 @@ use Prim.Native.Nat.{ℕ}
 use lib.ListN.{length, take, drop, length-map}
 use Rattle.meaning.specs.Rows.{Tables, recordOf, tablesOf}
 use Rattle.meaning.specs.Forest.{stands}
-use Rattle.meaning.specs.Answer.{Answer, done, limits, accepted, put, left-by}
+use Rattle.meaning.specs.Answer.{Answer, done, limits, storedLimits, accepted, put, left-by}
 use Rattle.meaning.specs.Lent.{Counts, rowsIn, putAll, countsBy, cellsBy}
 use Rattle.meaning.specs.Clean.{Outcome, rowIn, kept, clean, cleanEnd, cleaned, nodeMap, cleanAnswer, cleaning}
 use Rattle.meaning.specs.Stored.{number, form, formThen}
@@ -65,11 +65,11 @@ module _ (L : ℕ) (T : Tables) (S : List ℕ) (out : Tables) (outMap : List ℕ
       ∙ ap₂ (λ (X : Tables) (r : List ℕ). listed L X r) (front-put (cleaned stands L T S) out (cleaned-even L T S)) (take-put (length (T .nodes .birth)) (nodeMap stands L T S) outMap map-long)
 
 -- an accepted cleaning prints the cleaned tables and the node map
-pub clean-shown : (L : ℕ) (T : Tables) (S : List ℕ) → cleanAnswer stands limits L T S blank (zeros (limits .nodes)) 4 ≡ done → cleanShown L T S ≡ listed L (cleaned stands L T S) (nodeMap stands L T S)
+pub clean-shown : (L : ℕ) (T : Tables) (S : List ℕ) → cleanAnswer stands limits L T S blank (zeros (storedLimits .nodes)) 4 ≡ done → cleanShown L T S ≡ listed L (cleaned stands L T S) (nodeMap stands L T S)
 unfolding cleanShown cleaning
 clean-shown L T S e =
-    ap (λ (a : Answer). outcomeShown L (length (T .nodes .birth)) (cleanEnd a (cleaned stands L T S) (nodeMap stands L T S) blank (zeros (limits .nodes)))) e
-    ∙ outcome-listed L T S blank (zeros (limits .nodes))
+    ap (λ (a : Answer). outcomeShown L (length (T .nodes .birth)) (cleanEnd a (cleaned stands L T S) (nodeMap stands L T S) blank (zeros (storedLimits .nodes)))) e
+    ∙ outcome-listed L T S blank (zeros (storedLimits .nodes))
 
 -- what an accepted reading hands over
 handed-over : (a : Answer) (L : ℕ) (T : Tables) (S : List ℕ) (out : Tables) (listOut : List ℕ) → Accepted a → handed a L T S out listOut ≡ record { answer = a; len = L; rows = rowsIn T; listed = length S; cells = putAll T out; samples = put S listOut }
@@ -89,13 +89,13 @@ read-shown a L T S out listOut h s =
     ∙ ap₂ (λ (X : Tables) (l : List ℕ). cleanShown L X l) (front-put T out s) (take-put (length S) S listOut refl)
 
 -- the file s is read, and its tables are cleaned
-pub file-shown : (s : List ℕ) → Accepted (reading 2 limits s blank (zeros (limits .samples)) .answer) →
-    cleanAnswer stands limits (number 4 s 2) (tablesIn (found 2 limits s)) (samplesIn (found 2 limits s)) blank (zeros (limits .nodes)) 4 ≡ done →
-    shown s ≡ listed (number 4 s 2) (cleaned stands (number 4 s 2) (tablesIn (found 2 limits s)) (samplesIn (found 2 limits s))) (nodeMap stands (number 4 s 2) (tablesIn (found 2 limits s)) (samplesIn (found 2 limits s)))
+pub file-shown : (s : List ℕ) → Accepted (reading 2 storedLimits s blank (zeros (storedLimits .samples)) .answer) →
+    cleanAnswer stands limits (number 4 s 2) (tablesIn (found 2 storedLimits s)) (samplesIn (found 2 storedLimits s)) blank (zeros (storedLimits .nodes)) 4 ≡ done →
+    shown s ≡ listed (number 4 s 2) (cleaned stands (number 4 s 2) (tablesIn (found 2 storedLimits s)) (samplesIn (found 2 storedLimits s))) (nodeMap stands (number 4 s 2) (tablesIn (found 2 storedLimits s)) (samplesIn (found 2 storedLimits s)))
 unfolding shown reading
 file-shown s h e =
     let L : ℕ = number 4 s 2 in
-    let T : Tables = tablesIn (found 2 limits s) in
-    let S : List ℕ = samplesIn (found 2 limits s) in
-    read-shown (formThen (form 2 limits) s (roomAnswer limits T S blank (zeros (limits .samples)))) L T S blank (zeros (limits .samples)) h (clean-tells stands limits L T S blank (zeros (limits .nodes)) 4 (of-done _ e) .sound .shape)
+    let T : Tables = tablesIn (found 2 storedLimits s) in
+    let S : List ℕ = samplesIn (found 2 storedLimits s) in
+    read-shown (formThen (form 2 storedLimits) s (roomAnswer storedLimits T S blank (zeros (storedLimits .samples)))) L T S blank (zeros (storedLimits .samples)) h (clean-tells stands limits L T S blank (zeros (storedLimits .nodes)) 4 (of-done _ e) .sound .shape)
     ∙ clean-shown L T S e

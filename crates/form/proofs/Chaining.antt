@@ -7,7 +7,7 @@ use native.Mathlib.Omega.{arith}
 use borrow.Author.Tests.{lt-ltb, le-ltb}
 use lib.Dec.{ltb}
 use lib.ListN.{length}
-use Rattle.meaning.specs.Answer.{Answer, answer, limits, refuse, refusalOf}
+use Rattle.meaning.specs.Answer.{Answer, answer, storedLimits, refuse, refusalOf}
 use Rattle.meaning.specs.declared.Refusal.{Refusal}
 use Rattle.meaning.specs.Stored.{Kind, isMark, whole, size, rowsAt, after, stopThen, kindThen, endThen, kindsThen, form, formThen, kinds}
 use Rattle.form.specs.Refusals.{refuse-no, refuse-yes}
@@ -60,19 +60,19 @@ end-stopped s p o e r f x g = subst (λ j. EndScanned s j (step.Refused x)) e (s
 -- ---- the first record
 
 module _ (s : List ℕ) where
-  pub file-empty : length s < 2 → (rest : Answer) → formThen (form 2 limits) s rest ≡ answer 32 0
+  pub file-empty : length s < 2 → (rest : Answer) → formThen (form 2 storedLimits) s rest ≡ answer 32 0
   unfolding formThen
   file-empty l rest = refuse-yes 32 0 _ (lt-ltb (length s) 2 l)
 
-  pub file-wrong : 2 ≤ length s → isMark 83 81 s 0 ≡ false → (rest : Answer) → formThen (form 2 limits) s rest ≡ answer 31 0
+  pub file-wrong : 2 ≤ length s → isMark 83 81 s 0 ≡ false → (rest : Answer) → formThen (form 2 storedLimits) s rest ≡ answer 31 0
   unfolding formThen form
   file-wrong l m rest = refuse-no 32 0 _ (le-ltb (length s) 2 l) ∙ refuse-yes 31 0 _ (ap not m)
 
-  pub file-cut : 2 ≤ length s → isMark 83 81 s 0 ≡ true → length s < 6 → (rest : Answer) → formThen (form 2 limits) s rest ≡ answer 32 0
+  pub file-cut : 2 ≤ length s → isMark 83 81 s 0 ≡ true → length s < 6 → (rest : Answer) → formThen (form 2 storedLimits) s rest ≡ answer 32 0
   unfolding formThen form
   file-cut l m h rest = refuse-no 32 0 _ (le-ltb (length s) 2 l) ∙ refuse-no 31 0 _ (ap not m) ∙ refuse-yes 32 0 _ (lt-ltb (length s) 6 h)
 
-  file-on : 6 ≤ length s → isMark 83 81 s 0 ≡ true → (rest : Answer) → formThen (form 2 limits) s rest ≡ kindsThen (kinds 2 limits) s 6 rest
+  file-on : 6 ≤ length s → isMark 83 81 s 0 ≡ true → (rest : Answer) → formThen (form 2 storedLimits) s rest ≡ kindsThen (kinds 2 storedLimits) s 6 rest
   unfolding formThen form
   file-on l m rest = refuse-no 32 0 _ (le-ltb (length s) 2 (omega arith)) ∙ refuse-no 31 0 _ (ap not m) ∙ refuse-no 32 0 _ (le-ltb (length s) 6 l)
 

@@ -4,7 +4,7 @@ use mathlib.Core.Bool.{Bool, true, false}
 use mathlib.Core.List.{List, [], _∷_, _++_}
 use Prim.Native.Nat.{ℕ, _+_, _*_, _<_, _≤_}
 use lib.ListN.{length, take, drop}
-use Rattle.meaning.specs.Answer.{Answer, limits, refusalOf}
+use Rattle.meaning.specs.Answer.{Answer, storedLimits, refusalOf}
 use Rattle.meaning.specs.Stored.{SA, ND, ED, SI, MU, kinds, form, isMark, whole, rowsAt, after, stopThen, kindsThen, endThen, formThen}
 use Rattle.meaning.specs.Files.{nodesFrom, edgesFrom, sitesFrom, mutsFrom}
 use Rattle.form.specs.declared.Stretch.{Stretch}
@@ -27,21 +27,21 @@ Stepped a b z most s o (step.Refused x) = (rest : Answer) → stopThen a b most 
 
 -- where the rows of each kind stand
 pub record Found (s : List ℕ) (l : Layout) : Type 0 where
-  pub samples : Stretched 83 65 6 (limits .samples) s 6 (l .samples)
-  pub nodes : Stretched 78 68 10 (limits .nodes) s (nodesFrom limits s) (l .nodes)
-  pub edges : Stretched 69 68 14 (limits .edges) s (edgesFrom limits s) (l .edges)
-  pub sites : Stretched 83 73 7 (limits .sites) s (sitesFrom 2 limits s) (l .sites)
-  pub mutations : Stretched 77 85 7 (limits .mutations) s (mutsFrom 2 limits s) (l .mutations)
+  pub samples : Stretched 83 65 6 (storedLimits .samples) s 6 (l .samples)
+  pub nodes : Stretched 78 68 10 (storedLimits .nodes) s (nodesFrom storedLimits s) (l .nodes)
+  pub edges : Stretched 69 68 14 (storedLimits .edges) s (edgesFrom storedLimits s) (l .edges)
+  pub sites : Stretched 83 73 7 (storedLimits .sites) s (sitesFrom 2 storedLimits s) (l .sites)
+  pub mutations : Stretched 77 85 7 (storedLimits .mutations) s (mutsFrom 2 storedLimits s) (l .mutations)
 
 -- the whole file: its layout, or the refusal 31 to 34
 unfoldable pub Scanned : List ℕ → Scan → Type 0
-Scanned s (scan.Found l) = Found s l × (6 ≤ length s) × ((rest : Answer) → formThen (form 2 limits) s rest ≡ rest)
-Scanned s (scan.Refused x) = (rest : Answer) → formThen (form 2 limits) s rest ≡ refusalOf x
+Scanned s (scan.Found l) = Found s l × (6 ≤ length s) × ((rest : Answer) → formThen (form 2 storedLimits) s rest ≡ rest)
+Scanned s (scan.Refused x) = (rest : Answer) → formThen (form 2 storedLimits) s rest ≡ refusalOf x
 
 -- the same, of what stands from the kinds on
 unfoldable pub KindsScanned : List ℕ → Scan → Type 0
-KindsScanned s (scan.Found l) = Found s l × ((rest : Answer) → kindsThen (kinds 2 limits) s 6 rest ≡ rest)
-KindsScanned s (scan.Refused x) = (rest : Answer) → kindsThen (kinds 2 limits) s 6 rest ≡ refusalOf x
+KindsScanned s (scan.Found l) = Found s l × ((rest : Answer) → kindsThen (kinds 2 storedLimits) s 6 rest ≡ rest)
+KindsScanned s (scan.Refused x) = (rest : Answer) → kindsThen (kinds 2 storedLimits) s 6 rest ≡ refusalOf x
 
 -- the end of the file: nothing, or the refusal
 unfoldable pub EndScanned : List ℕ → ℕ → Step → Type 0

@@ -3,7 +3,7 @@ ghost use mathlib.Core.Path.{_≡_};
 ghost use mathlib.Core.List.{List, [], _∷_};
 ghost use Prim.Native.Nat.{ℕ, _+_, _*_, _<_, _≤_};
 ghost use lib.ListN.{length};
-ghost use Rattle.meaning.specs.Answer.{limits};
+ghost use Rattle.meaning.specs.Answer.{storedLimits};
 ghost use Rattle.meaning.specs.Stored.{SA, ND, ED, SI, MU, bytesOf, recordAt, recordsFrom};
 ghost use Rattle.form.specs.Posts.{lay};
 
@@ -53,7 +53,7 @@ pub fn head(len: u32, out: &mut [u8])
 // One sample's record.
 fn sample_row(at: usize, birth: u32, out: &mut [u8])
     requires { ⌜ at + 6 ≤ length (now out) ⌝ }
-    ensures { λ _. ⌜ now (out .exit) ≡ lay at (recordAt (SA limits) ((birth ∷ []) ∷ []) 0) (now (out .entry)) ⌝ }
+    ensures { λ _. ⌜ now (out .exit) ≡ lay at (recordAt (SA storedLimits) ((birth ∷ []) ∷ []) 0) (now (out .entry)) ⌝ }
 {
     let p = at + 2;
     mark(at, 83, 65, out);
@@ -63,7 +63,7 @@ fn sample_row(at: usize, birth: u32, out: &mut [u8])
 // The records of all samples; the offset after them.
 pub fn samples(birth: &[u32], start: usize, out: &mut [u8]) -> usize
     requires { ⌜ (start + length (now birth) * 6 ≤ length (now out)) ⌝ }
-    ensures { λ r. ⌜ (r ≡ start + length (now (birth .entry)) * 6) × (now (out .exit) ≡ lay start (recordsFrom (SA limits) (now (birth .entry) ∷ []) 0 (length (now (birth .entry)))) (now (out .entry))) ⌝ }
+    ensures { λ r. ⌜ (r ≡ start + length (now (birth .entry)) * 6) × (now (out .exit) ≡ lay start (recordsFrom (SA storedLimits) (now (birth .entry) ∷ []) 0 (length (now (birth .entry)))) (now (out .entry))) ⌝ }
 {
     let mut at = start;
     let mut i = 0;
@@ -78,7 +78,7 @@ pub fn samples(birth: &[u32], start: usize, out: &mut [u8]) -> usize
 // One node's record.
 fn node_row(at: usize, time: u32, birth: u32, out: &mut [u8])
     requires { ⌜ at + 10 ≤ length (now out) ⌝ }
-    ensures { λ _. ⌜ now (out .exit) ≡ lay at (recordAt (ND limits) ((time ∷ []) ∷ (birth ∷ []) ∷ []) 0) (now (out .entry)) ⌝ }
+    ensures { λ _. ⌜ now (out .exit) ≡ lay at (recordAt (ND storedLimits) ((time ∷ []) ∷ (birth ∷ []) ∷ []) 0) (now (out .entry)) ⌝ }
 {
     let p = at + 2;
     let q = p + 4;
@@ -90,7 +90,7 @@ fn node_row(at: usize, time: u32, birth: u32, out: &mut [u8])
 // The records of all nodes; the offset after them.
 pub fn nodes(time: &[u32], birth: &[u32], start: usize, out: &mut [u8]) -> usize
     requires { ⌜ (start + length (now time) * 10 ≤ length (now out)) × (length (now birth) ≡ length (now time)) ⌝ }
-    ensures { λ r. ⌜ (r ≡ start + length (now (time .entry)) * 10) × (now (out .exit) ≡ lay start (recordsFrom (ND limits) (now (time .entry) ∷ now (birth .entry) ∷ []) 0 (length (now (time .entry)))) (now (out .entry))) ⌝ }
+    ensures { λ r. ⌜ (r ≡ start + length (now (time .entry)) * 10) × (now (out .exit) ≡ lay start (recordsFrom (ND storedLimits) (now (time .entry) ∷ now (birth .entry) ∷ []) 0 (length (now (time .entry)))) (now (out .entry))) ⌝ }
 {
     let mut at = start;
     let mut i = 0;
@@ -105,7 +105,7 @@ pub fn nodes(time: &[u32], birth: &[u32], start: usize, out: &mut [u8]) -> usize
 // One edge's record.
 fn edge_row(at: usize, left: u32, right: u32, parent: u32, child: u32, out: &mut [u8])
     requires { ⌜ at + 14 ≤ length (now out) ⌝ }
-    ensures { λ _. ⌜ now (out .exit) ≡ lay at (recordAt (ED 2 limits) ((left ∷ []) ∷ (right ∷ []) ∷ (parent ∷ []) ∷ (child ∷ []) ∷ []) 0) (now (out .entry)) ⌝ }
+    ensures { λ _. ⌜ now (out .exit) ≡ lay at (recordAt (ED 2 storedLimits) ((left ∷ []) ∷ (right ∷ []) ∷ (parent ∷ []) ∷ (child ∷ []) ∷ []) 0) (now (out .entry)) ⌝ }
 {
     let p = at + 2;
     let q = p + 4;
@@ -128,7 +128,7 @@ pub fn edges(
     out: &mut [u8],
 ) -> usize
     requires { ⌜ (start + length (now left) * 14 ≤ length (now out)) × (length (now right) ≡ length (now left)) × (length (now parent) ≡ length (now left)) × (length (now child) ≡ length (now left)) ⌝ }
-    ensures { λ r. ⌜ (r ≡ start + length (now (left .entry)) * 14) × (now (out .exit) ≡ lay start (recordsFrom (ED 2 limits) (now (left .entry) ∷ now (right .entry) ∷ now (parent .entry) ∷ now (child .entry) ∷ []) 0 (length (now (left .entry)))) (now (out .entry))) ⌝ }
+    ensures { λ r. ⌜ (r ≡ start + length (now (left .entry)) * 14) × (now (out .exit) ≡ lay start (recordsFrom (ED 2 storedLimits) (now (left .entry) ∷ now (right .entry) ∷ now (parent .entry) ∷ now (child .entry) ∷ []) 0 (length (now (left .entry)))) (now (out .entry))) ⌝ }
 {
     let mut at = start;
     let mut i = 0;
@@ -143,7 +143,7 @@ pub fn edges(
 // One site's record.
 fn site_row(at: usize, position: u32, ancestral: u8, out: &mut [u8])
     requires { ⌜ at + 7 ≤ length (now out) ⌝ }
-    ensures { λ _. ⌜ now (out .exit) ≡ lay at (recordAt (SI limits) ((position ∷ []) ∷ (ancestral ∷ []) ∷ []) 0) (now (out .entry)) ⌝ }
+    ensures { λ _. ⌜ now (out .exit) ≡ lay at (recordAt (SI storedLimits) ((position ∷ []) ∷ (ancestral ∷ []) ∷ []) 0) (now (out .entry)) ⌝ }
 {
     let p = at + 2;
     let q = p + 4;
@@ -155,7 +155,7 @@ fn site_row(at: usize, position: u32, ancestral: u8, out: &mut [u8])
 // The records of all sites; the offset after them.
 pub fn sites(position: &[u32], ancestral: &[u8], start: usize, out: &mut [u8]) -> usize
     requires { ⌜ (start + length (now position) * 7 ≤ length (now out)) × (length (now ancestral) ≡ length (now position)) ⌝ }
-    ensures { λ r. ⌜ (r ≡ start + length (now (position .entry)) * 7) × (now (out .exit) ≡ lay start (recordsFrom (SI limits) (now (position .entry) ∷ now (ancestral .entry) ∷ []) 0 (length (now (position .entry)))) (now (out .entry))) ⌝ }
+    ensures { λ r. ⌜ (r ≡ start + length (now (position .entry)) * 7) × (now (out .exit) ≡ lay start (recordsFrom (SI storedLimits) (now (position .entry) ∷ now (ancestral .entry) ∷ []) 0 (length (now (position .entry)))) (now (out .entry))) ⌝ }
 {
     let mut at = start;
     let mut i = 0;
@@ -170,7 +170,7 @@ pub fn sites(position: &[u32], ancestral: &[u8], start: usize, out: &mut [u8]) -
 // One mutation's record.
 fn mutation_row(at: usize, site: u32, node: u32, derived: u8, out: &mut [u8])
     requires { ⌜ at + 7 ≤ length (now out) ⌝ }
-    ensures { λ _. ⌜ now (out .exit) ≡ lay at (recordAt (MU 2 limits) ((site ∷ []) ∷ (node ∷ []) ∷ (derived ∷ []) ∷ []) 0) (now (out .entry)) ⌝ }
+    ensures { λ _. ⌜ now (out .exit) ≡ lay at (recordAt (MU 2 storedLimits) ((site ∷ []) ∷ (node ∷ []) ∷ (derived ∷ []) ∷ []) 0) (now (out .entry)) ⌝ }
 {
     let p = at + 2;
     let q = p + 2;
@@ -184,7 +184,7 @@ fn mutation_row(at: usize, site: u32, node: u32, derived: u8, out: &mut [u8])
 // The records of all mutations; the offset after them.
 pub fn mutations(site: &[u32], node: &[u32], derived: &[u8], start: usize, out: &mut [u8]) -> usize
     requires { ⌜ (start + length (now site) * 7 ≤ length (now out)) × (length (now node) ≡ length (now site)) × (length (now derived) ≡ length (now site)) ⌝ }
-    ensures { λ r. ⌜ (r ≡ start + length (now (site .entry)) * 7) × (now (out .exit) ≡ lay start (recordsFrom (MU 2 limits) (now (site .entry) ∷ now (node .entry) ∷ now (derived .entry) ∷ []) 0 (length (now (site .entry)))) (now (out .entry))) ⌝ }
+    ensures { λ r. ⌜ (r ≡ start + length (now (site .entry)) * 7) × (now (out .exit) ≡ lay start (recordsFrom (MU 2 storedLimits) (now (site .entry) ∷ now (node .entry) ∷ now (derived .entry) ∷ []) 0 (length (now (site .entry)))) (now (out .entry))) ⌝ }
 {
     let mut at = start;
     let mut i = 0;

@@ -92,23 +92,23 @@ pub fn kinds(s: &[u8]) -> Scan
     requires { ⌜ 6 ≤ length (now s) ⌝ }
     ensures { λ r. ⌜ KindsScanned (now (s .entry)) r ⌝ }
 {
-    let samples = match kind(s, 6, 83, 65, 6, SampleTable::MOST) {
+    let samples = match kind(s, 6, 83, 65, 6, SampleTable::STORED) {
         Step::Ends(w) => w,
         Step::Refused(x) => return Scan::Refused(x),
     };
-    let nodes = match kind(s, samples.end, 78, 68, 10, NodeTable::MOST) {
+    let nodes = match kind(s, samples.end, 78, 68, 10, NodeTable::STORED) {
         Step::Ends(w) => w,
         Step::Refused(x) => return Scan::Refused(x),
     };
-    let edges = match kind(s, nodes.end, 69, 68, 14, EdgeTable::MOST) {
+    let edges = match kind(s, nodes.end, 69, 68, 14, EdgeTable::STORED) {
         Step::Ends(w) => w,
         Step::Refused(x) => return Scan::Refused(x),
     };
-    let sites = match kind(s, edges.end, 83, 73, 7, SiteTable::MOST) {
+    let sites = match kind(s, edges.end, 83, 73, 7, SiteTable::STORED) {
         Step::Ends(w) => w,
         Step::Refused(x) => return Scan::Refused(x),
     };
-    let mutations = match kind(s, sites.end, 77, 85, 7, MutationTable::MOST) {
+    let mutations = match kind(s, sites.end, 77, 85, 7, MutationTable::STORED) {
         Step::Ends(w) => w,
         Step::Refused(x) => return Scan::Refused(x),
     };

@@ -36,6 +36,10 @@ pub record Limits : Type 0 where
 abbrev pub limits : Limits
 limits = record { nodes = 1024; edges = 4096; sites = 512; mutations = 1024; samples = 256 }
 
+-- what a stored file may hold, and the room of the listing program: 01's own numbers, with a name of their own
+abbrev pub storedLimits : Limits
+storedLimits = record { nodes = 1024; edges = 4096; sites = 512; mutations = 1024; samples = 256 }
+
 -- "The chromosome length L is 1 to 1,073,741,824."
 abbrev pub longest : ℕ
 longest = 1073741824

@@ -4,7 +4,7 @@ use mathlib.Core.List.{List, [], _∷_}
 use Prim.Native.Nat.{ℕ}
 use Rattle.meaning.specs.Rows.{Tables}
 use Rattle.meaning.specs.Forest.{stands}
-use Rattle.meaning.specs.Answer.{Answer, answer, done, limits, given}
+use Rattle.meaning.specs.Answer.{Answer, answer, done, limits, storedLimits, given}
 use Rattle.meaning.specs.Check.{check}
 use Rattle.meaning.specs.Clean.{cleaning}
 use Rattle.meaning.specs.Allele.{allele}
@@ -43,7 +43,7 @@ pub record ByHand : Type 0 where
     map = 0 ∷ 1 ∷ 2 ∷ 3 ∷ 4294967295 ∷ 7 ∷ 7 ∷ [];
   }
   -- its stored file, and what the program prints for that file
-  pub P1-file : written 2 limits 10 listing (501 ∷ 502 ∷ []) ≡ file
+  pub P1-file : written 2 storedLimits 10 listing (501 ∷ 502 ∷ []) ≡ file
   pub P1-printed : shown file ≡ printed
   -- same, samples 501, 401: one edge (0,10,1,0)
   pub P2 : cleaning stands limits 10 listing (501 ∷ 401 ∷ []) lent cells 4 ≡ record {

@@ -6,7 +6,7 @@ use lib.Dec.{ltb}
 use lib.ListN.{length, take, replicate}
 use Rattle.meaning.specs.Rows.{Tables}
 use Rattle.meaning.specs.Forest.{stands}
-use Rattle.meaning.specs.Answer.{Answer, limits, accepted}
+use Rattle.meaning.specs.Answer.{Answer, limits, storedLimits, accepted}
 use Rattle.meaning.specs.Lent.{Counts}
 use Rattle.meaning.specs.Clean.{Outcome, cleaning}
 use Rattle.meaning.specs.Files.{Reading, reading}
@@ -19,10 +19,10 @@ zeros n = replicate n 0
 unfoldable pub blank : Tables
 unfolding zeros
 blank = record {
-  nodes = record { time = zeros (limits .nodes); birth = zeros (limits .nodes) };
-  edges = record { left = zeros (limits .edges); right = zeros (limits .edges); parent = zeros (limits .edges); child = zeros (limits .edges) };
-  sites = record { position = zeros (limits .sites); ancestral = zeros (limits .sites) };
-  muts = record { site = zeros (limits .mutations); node = zeros (limits .mutations); derived = zeros (limits .mutations) };
+  nodes = record { time = zeros (storedLimits .nodes); birth = zeros (storedLimits .nodes) };
+  edges = record { left = zeros (storedLimits .edges); right = zeros (storedLimits .edges); parent = zeros (storedLimits .edges); child = zeros (storedLimits .edges) };
+  sites = record { position = zeros (storedLimits .sites); ancestral = zeros (storedLimits .sites) };
+  muts = record { site = zeros (storedLimits .mutations); node = zeros (storedLimits .mutations); derived = zeros (storedLimits .mutations) };
 }
 
 -- so many rows of each table
@@ -61,7 +61,7 @@ outcomeShown L rows o = printedBy (o .answer) (listed L (front (o .counts) (o .c
 -- the tables are cleaned and listed
 unfoldable pub cleanShown : ℕ → Tables → List ℕ → List ℕ
 unfolding outcomeShown cleaning stands blank zeros
-cleanShown L T S = outcomeShown L (length (T .nodes .birth)) (cleaning stands limits L T S blank (zeros (limits .nodes)) 4)
+cleanShown L T S = outcomeShown L (length (T .nodes .birth)) (cleaning stands limits L T S blank (zeros (storedLimits .nodes)) 4)
 
 -- what a reading prints: the rows read, cleaned and listed
 unfoldable pub readingShown : Reading → List ℕ
@@ -71,7 +71,7 @@ readingShown r = printedBy (r .answer) (cleanShown (r .len) (front (r .rows) (r 
 -- "The program reads the stored form .., cleans with room for every table's limit, and prints."
 unfoldable pub shown : List ℕ → List ℕ
 unfolding readingShown reading blank zeros
-shown s = readingShown (reading 2 limits s blank (zeros (limits .samples)))
+shown s = readingShown (reading 2 storedLimits s blank (zeros (storedLimits .samples)))
 
 -- "at most 65,536 bytes"; "With more bytes it prints `too long`"
 unfoldable pub answered : List ℕ → List ℕ

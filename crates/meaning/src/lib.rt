@@ -12,6 +12,9 @@ impl NodeTable {
     pub const NUMBER: usize = 1;
 
     pub const MOST: usize = 1024;
+
+    // As many rows may stand in a stored file and in a listing.
+    pub const STORED: usize = 1024;
 }
 
 // Table 2: left, right, parent row and child row of each edge.
@@ -23,6 +26,9 @@ impl EdgeTable {
     pub const NUMBER: usize = 2;
 
     pub const MOST: usize = 4096;
+
+    // As many rows may stand in a stored file and in a listing.
+    pub const STORED: usize = 4096;
 }
 
 // Table 3: position and ancestral state of each site.
@@ -34,6 +40,9 @@ impl SiteTable {
     pub const NUMBER: usize = 3;
 
     pub const MOST: usize = 512;
+
+    // As many rows may stand in a stored file and in a listing.
+    pub const STORED: usize = 512;
 }
 
 // Table 4: site row, node row and derived state of each mutation.
@@ -45,6 +54,9 @@ impl MutationTable {
     pub const NUMBER: usize = 4;
 
     pub const MOST: usize = 1024;
+
+    // As many rows may stand in a stored file and in a listing.
+    pub const STORED: usize = 1024;
 }
 
 // Table 5: the birth number of each sample.
@@ -56,6 +68,9 @@ impl SampleTable {
     pub const NUMBER: usize = 5;
 
     pub const MOST: usize = 256;
+
+    // As many rows may stand in a stored file and in a listing.
+    pub const STORED: usize = 256;
 }
 
 // Table 6: the output row of each input node row.

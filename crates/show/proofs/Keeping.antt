@@ -9,7 +9,7 @@ use lib.ListN.{length, drop, length-append, length-drop, length-map}
 use Rattle.meaning.specs.Words.{and}
 use Rattle.meaning.specs.Rows.{Tables, recordOf}
 use Rattle.meaning.specs.Forest.{stands}
-use Rattle.meaning.specs.Answer.{Answer, done, limits, accepted, refuse, lacks, put, left-by}
+use Rattle.meaning.specs.Answer.{Answer, done, limits, storedLimits, accepted, refuse, lacks, put, left-by}
 use Rattle.meaning.specs.Lent.{Counts, rowsIn, countsBy, cellsBy}
 use Rattle.meaning.specs.Clean.{Outcome, cleanEnd, rowIn, kept, cleaned, nodeMap, cleanAnswer, cleaning}
 use Rattle.laws.specs.Facts.{All}
@@ -22,12 +22,12 @@ use Rattle.meaning.specs.Files.{Reading, reading, handed, ifDone, roomAnswer, f
 use Rattle.listing.specs.Written.{room}
 use Rattle.meaning.specs.Shown.{Long}
 
--- so many rows keep to the limits
+-- so many rows keep to the limits of a listing
 pub record Few (n : Counts) : Type 0 where
-  pub nodes : n .nodes ≤ limits .nodes
-  pub edges : n .edges ≤ limits .edges
-  pub sites : n .sites ≤ limits .sites
-  pub mutations : n .mutations ≤ limits .mutations
+  pub nodes : n .nodes ≤ storedLimits .nodes
+  pub edges : n .edges ≤ storedLimits .edges
+  pub sites : n .sites ≤ storedLimits .sites
+  pub mutations : n .mutations ≤ storedLimits .mutations
 
 counts-accepted : (a : Answer) (T : Tables) → Accepted a → countsBy a T ≡ rowsIn T
 unfolding countsBy
@@ -96,7 +96,7 @@ long-of a new out cells n h e q f = subst (λ (m : Counts). Long m cells) (sym (
 pub record Listable (n : Counts) (cells : Tables) (rows : ℕ) (nodemap : List ℕ) : Type 0 where
   pub few : Few n
   pub long : Long n cells
-  pub rows-few : rows ≤ limits .nodes
+  pub rows-few : rows ≤ storedLimits .nodes
   pub rows-long : rows ≤ length nodemap
 
 -- what a cleaning that is done wrote
@@ -117,7 +117,7 @@ clean-listable L T S out outMap n cells nodemap e =
     }
 
 -- the room that 01's limits ask
-pub listing-room : (n : Counts) (rows bytes : ℕ) → Few n → rows ≤ limits .nodes → 307200 ≤ bytes → room (n .nodes) (n .edges) (n .sites) (n .mutations) rows ≤ bytes
+pub listing-room : (n : Counts) (rows bytes : ℕ) → Few n → rows ≤ storedLimits .nodes → 307200 ≤ bytes → room (n .nodes) (n .edges) (n .sites) (n .mutations) rows ≤ bytes
 listing-room n rows bytes f r b = omega arith
 
 -- ---- reading
@@ -155,15 +155,15 @@ unfolding ifDone
 done-is a n h = rw (h, ifDone)
 
 -- what a reading that is done read
-pub read-long : (s : List ℕ) (out : Tables) (listOut : List ℕ) (L : ℕ) (n : Counts) (k : ℕ) (cells : Tables) (samples : List ℕ) → record { answer = done; len = L; rows = n; listed = k; cells = cells; samples = samples } ≡ reading 2 limits s out listOut → Long n cells × (k ≤ length samples)
+pub read-long : (s : List ℕ) (out : Tables) (listOut : List ℕ) (L : ℕ) (n : Counts) (k : ℕ) (cells : Tables) (samples : List ℕ) → record { answer = done; len = L; rows = n; listed = k; cells = cells; samples = samples } ≡ reading 2 storedLimits s out listOut → Long n cells × (k ≤ length samples)
 unfolding reading handed roomAnswer
 read-long s out listOut L n k cells samples e =
-    let T : Tables = tablesIn (found 2 limits s) in
-    let S : List ℕ = samplesIn (found 2 limits s) in
-    let last : Answer = refuse (lacks (limits .samples) (listOut ∷ []) (length S)) 13 5 done in
-    let a : Answer = formThen (form 2 limits) s (roomAnswer limits T S out listOut) in
+    let T : Tables = tablesIn (found 2 storedLimits s) in
+    let S : List ℕ = samplesIn (found 2 storedLimits s) in
+    let last : Answer = refuse (lacks (storedLimits .samples) (listOut ∷ []) (length S)) 13 5 done in
+    let a : Answer = formThen (form 2 storedLimits) s (roomAnswer storedLimits T S out listOut) in
     let h : Accepted a = of-done a (sym (ap (λ (r : Reading). r .answer) e)) in
-    let f : _ = fits-of limits T out last (form-passed (form 2 limits) s (roomAnswer limits T S out listOut) h) in
-    let g : _ = passed-room (limits .samples) listOut [] (length S) 13 5 done (omega arith) (f .1) in
+    let f : _ = fits-of storedLimits T out last (form-passed (form 2 storedLimits) s (roomAnswer storedLimits T S out listOut) h) in
+    let g : _ = passed-room (storedLimits .samples) listOut [] (length S) 13 5 done (omega arith) (f .1) in
     let l : length S ≤ length (left-by a S listOut) = left-long a S listOut _ (one (g .0 .roomy)) in
     (long-of a T out cells n h (ap (λ (r : Reading). r .rows) e) (ap (λ (r : Reading). r .cells) e) (f .0), omega (arith, ap (λ (r : Reading). r .listed) e, done-is a (length S) h, ap (λ (r : Reading). length (r .samples)) e))

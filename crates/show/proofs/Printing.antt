@@ -7,7 +7,7 @@ use native.Mathlib.Omega.{arith}
 use lib.ListN.{length, take, drop, length-append}
 use Rattle.meaning.specs.Rows.{Tables}
 use Rattle.meaning.specs.Forest.{stands}
-use Rattle.meaning.specs.Answer.{done, limits, accepted, put, refusalOf}
+use Rattle.meaning.specs.Answer.{done, limits, storedLimits, accepted, put, refusalOf}
 use Rattle.meaning.specs.declared.Refusal.{Refusal}
 use Rattle.meaning.specs.Lent.{Counts}
 use Rattle.meaning.specs.Clean.{cleaning}
@@ -30,23 +30,23 @@ refusal-printed x new = rw (refusal-refuses x, printedBy)
 
 module _ (L : ℕ) (T : Tables) (S : List ℕ) (n : Counts) (cells : Tables) (nodemap : List ℕ) where
   -- a cleaning that is done prints its result
-  pub clean-listed : record { answer = done; counts = n; cells = cells; map = nodemap } ≡ cleaning stands limits L T S blank (zeros (limits .nodes)) 4 → listed L (front n cells) (take (length (T .nodes .birth)) nodemap) ≡ cleanShown L T S
+  pub clean-listed : record { answer = done; counts = n; cells = cells; map = nodemap } ≡ cleaning stands limits L T S blank (zeros (storedLimits .nodes)) 4 → listed L (front n cells) (take (length (T .nodes .birth)) nodemap) ≡ cleanShown L T S
   unfolding cleanShown outcomeShown printedBy accepted
   clean-listed e = ap (outcomeShown L (length (T .nodes .birth))) e
 
   -- and one that is refused its line
-  pub clean-refused : (x : Refusal) → record { answer = refusalOf x; counts = n; cells = cells; map = nodemap } ≡ cleaning stands limits L T S blank (zeros (limits .nodes)) 4 → refusedLine (refusalOf x .number) (refusalOf x .row) ≡ cleanShown L T S
+  pub clean-refused : (x : Refusal) → record { answer = refusalOf x; counts = n; cells = cells; map = nodemap } ≡ cleaning stands limits L T S blank (zeros (storedLimits .nodes)) 4 → refusedLine (refusalOf x .number) (refusalOf x .row) ≡ cleanShown L T S
   unfolding cleanShown outcomeShown
   clean-refused x e = sym (refusal-printed x _) ∙ ap (outcomeShown L (length (T .nodes .birth))) e
 
 module _ (s : List ℕ) (L : ℕ) (n : Counts) (k : ℕ) (cells : Tables) (samples : List ℕ) where
   -- a reading that is done prints what its rows do
-  pub read-listed : record { answer = done; len = L; rows = n; listed = k; cells = cells; samples = samples } ≡ reading 2 limits s blank (zeros (limits .samples)) → cleanShown L (front n cells) (take k samples) ≡ shown s
+  pub read-listed : record { answer = done; len = L; rows = n; listed = k; cells = cells; samples = samples } ≡ reading 2 storedLimits s blank (zeros (storedLimits .samples)) → cleanShown L (front n cells) (take k samples) ≡ shown s
   unfolding shown readingShown printedBy accepted
   read-listed e = ap readingShown e
 
   -- and one that is refused its line
-  pub read-refused : (x : Refusal) → record { answer = refusalOf x; len = L; rows = n; listed = k; cells = cells; samples = samples } ≡ reading 2 limits s blank (zeros (limits .samples)) → refusedLine (refusalOf x .number) (refusalOf x .row) ≡ shown s
+  pub read-refused : (x : Refusal) → record { answer = refusalOf x; len = L; rows = n; listed = k; cells = cells; samples = samples } ≡ reading 2 storedLimits s blank (zeros (storedLimits .samples)) → refusedLine (refusalOf x .number) (refusalOf x .row) ≡ shown s
   unfolding shown readingShown
   read-refused x e = sym (refusal-printed x _) ∙ ap readingShown e
 

@@ -4,7 +4,7 @@ ghost use mathlib.Core.Path.{_≡_};
 ghost use Prim.Native.Nat.{_≤_};
 ghost use lib.ListN.{length, take};
 ghost use Rattle.meaning.specs.Rows.{nodeTable, edgeTable, siteTable, mutationTable, tables};
-ghost use Rattle.meaning.specs.Answer.{limits, refusalOf};
+ghost use Rattle.meaning.specs.Answer.{refusalOf};
 ghost use Rattle.meaning.specs.Printed.{listed, refusedLine};
 ghost use Rattle.listing.specs.Written.{Printed, room};
 ghost use Rattle.meaning.specs.Shown.{Long, front, cleanShown, shown, answered};
@@ -103,18 +103,18 @@ fn clean_and_list(
         (siteTable (now (position .entry)) (now (ancestral .entry)))
         (mutationTable (now (site .entry)) (now (node .entry)) (now (derived .entry)))) (now (samples .entry))) (now (out .entry)) (now (out .exit)) r ⌝ }
 {
-    let mut out_time = [0u32; meaning::NodeTable::MOST];
-    let mut out_birth = [0u32; meaning::NodeTable::MOST];
-    let mut out_left = [0u32; meaning::EdgeTable::MOST];
-    let mut out_right = [0u32; meaning::EdgeTable::MOST];
-    let mut out_parent = [0u32; meaning::EdgeTable::MOST];
-    let mut out_child = [0u32; meaning::EdgeTable::MOST];
-    let mut out_position = [0u32; meaning::SiteTable::MOST];
-    let mut out_ancestral = [0u8; meaning::SiteTable::MOST];
-    let mut out_site = [0u32; meaning::MutationTable::MOST];
-    let mut out_node = [0u32; meaning::MutationTable::MOST];
-    let mut out_derived = [0u8; meaning::MutationTable::MOST];
-    let mut out_map = [0u32; meaning::NodeTable::MOST];
+    let mut out_time = [0u32; meaning::NodeTable::STORED];
+    let mut out_birth = [0u32; meaning::NodeTable::STORED];
+    let mut out_left = [0u32; meaning::EdgeTable::STORED];
+    let mut out_right = [0u32; meaning::EdgeTable::STORED];
+    let mut out_parent = [0u32; meaning::EdgeTable::STORED];
+    let mut out_child = [0u32; meaning::EdgeTable::STORED];
+    let mut out_position = [0u32; meaning::SiteTable::STORED];
+    let mut out_ancestral = [0u8; meaning::SiteTable::STORED];
+    let mut out_site = [0u32; meaning::MutationTable::STORED];
+    let mut out_node = [0u32; meaning::MutationTable::STORED];
+    let mut out_derived = [0u8; meaning::MutationTable::STORED];
+    let mut out_map = [0u32; meaning::NodeTable::STORED];
     let answer = cleaner::clean(
         len,
         time,
@@ -234,18 +234,18 @@ pub fn show(bytes: &[u8], out: &mut [u8]) -> usize
     requires { ⌜ 307200 ≤ length (now out) ⌝ }
     ensures { λ r. ⌜ Printed (shown (now (bytes .entry))) (now (out .entry)) (now (out .exit)) r ⌝ }
 {
-    let mut time = [0u32; meaning::NodeTable::MOST];
-    let mut birth = [0u32; meaning::NodeTable::MOST];
-    let mut left = [0u32; meaning::EdgeTable::MOST];
-    let mut right = [0u32; meaning::EdgeTable::MOST];
-    let mut parent = [0u32; meaning::EdgeTable::MOST];
-    let mut child = [0u32; meaning::EdgeTable::MOST];
-    let mut position = [0u32; meaning::SiteTable::MOST];
-    let mut ancestral = [0u8; meaning::SiteTable::MOST];
-    let mut site = [0u32; meaning::MutationTable::MOST];
-    let mut node = [0u32; meaning::MutationTable::MOST];
-    let mut derived = [0u8; meaning::MutationTable::MOST];
-    let mut samples = [0u32; meaning::SampleTable::MOST];
+    let mut time = [0u32; meaning::NodeTable::STORED];
+    let mut birth = [0u32; meaning::NodeTable::STORED];
+    let mut left = [0u32; meaning::EdgeTable::STORED];
+    let mut right = [0u32; meaning::EdgeTable::STORED];
+    let mut parent = [0u32; meaning::EdgeTable::STORED];
+    let mut child = [0u32; meaning::EdgeTable::STORED];
+    let mut position = [0u32; meaning::SiteTable::STORED];
+    let mut ancestral = [0u8; meaning::SiteTable::STORED];
+    let mut site = [0u32; meaning::MutationTable::STORED];
+    let mut node = [0u32; meaning::MutationTable::STORED];
+    let mut derived = [0u8; meaning::MutationTable::STORED];
+    let mut samples = [0u32; meaning::SampleTable::STORED];
     let answer = stored::read(
         bytes,
         &mut time,

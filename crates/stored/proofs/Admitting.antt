@@ -9,7 +9,7 @@ use lib.Dec.{eqb, leb, ltb}
 use lib.ListN.{length}
 use Rattle.meaning.specs.Words.{or, at, any}
 use Rattle.meaning.specs.Rows.{Tables}
-use Rattle.meaning.specs.Answer.{Answer, answer, limits, ragged}
+use Rattle.meaning.specs.Answer.{Answer, answer, storedLimits, ragged}
 use Rattle.meaning.specs.Check.{shapes, sizes, tooMany}
 use Rattle.laws.specs.Bools.{or-left, or-right}
 use Rattle.meaning.specs.Files.{tooWide}
@@ -99,15 +99,15 @@ module _ (n : Lengths) (T : Tables) (l : Long n T) where
 
 module _ (n : Rows) (T : Tables) (S : List ℕ) (c : Counted n T S) where
   -- 2 with the lowest table that has too many rows
-  pub sizes-over : (rest : Answer) (t : ℕ) → Lowest n mostRows t → sizes limits T (tooMany 5 (limits .samples) S rest) ≡ answer 2 t
+  pub sizes-over : (rest : Answer) (t : ℕ) → Lowest n mostRows t → sizes storedLimits T (tooMany 5 (storedLimits .samples) S rest) ≡ answer 2 t
   unfolding sizes
-  sizes-over rest t (at-nodes h) = refuse-yes 2 1 _ (lt-ltb (limits .nodes) (length (T .nodes .time)) (omega (arith, c .nodes)))
-  sizes-over rest t (at-edges a h) = refuse-no 2 1 _ (le-ltb (limits .nodes) (length (T .nodes .time)) (omega (arith, c .nodes))) ∙ refuse-yes 2 2 _ (lt-ltb (limits .edges) (length (T .edges .left)) (omega (arith, c .edges)))
-  sizes-over rest t (at-sites a b h) = refuse-no 2 1 _ (le-ltb (limits .nodes) (length (T .nodes .time)) (omega (arith, c .nodes))) ∙ refuse-no 2 2 _ (le-ltb (limits .edges) (length (T .edges .left)) (omega (arith, c .edges))) ∙ refuse-yes 2 3 _ (lt-ltb (limits .sites) (length (T .sites .position)) (omega (arith, c .sites)))
-  sizes-over rest t (at-muts a b d h) = refuse-no 2 1 _ (le-ltb (limits .nodes) (length (T .nodes .time)) (omega (arith, c .nodes))) ∙ refuse-no 2 2 _ (le-ltb (limits .edges) (length (T .edges .left)) (omega (arith, c .edges))) ∙ refuse-no 2 3 _ (le-ltb (limits .sites) (length (T .sites .position)) (omega (arith, c .sites))) ∙ refuse-yes 2 4 _ (lt-ltb (limits .mutations) (length (T .muts .site)) (omega (arith, c .muts)))
-  sizes-over rest t (at-samples a b d e h) = refuse-no 2 1 _ (le-ltb (limits .nodes) (length (T .nodes .time)) (omega (arith, c .nodes))) ∙ refuse-no 2 2 _ (le-ltb (limits .edges) (length (T .edges .left)) (omega (arith, c .edges))) ∙ refuse-no 2 3 _ (le-ltb (limits .sites) (length (T .sites .position)) (omega (arith, c .sites))) ∙ refuse-no 2 4 _ (le-ltb (limits .mutations) (length (T .muts .site)) (omega (arith, c .muts))) ∙ refuse-yes 2 5 rest (lt-ltb (limits .samples) (length S) (omega (arith, c .samples)))
+  sizes-over rest t (at-nodes h) = refuse-yes 2 1 _ (lt-ltb (storedLimits .nodes) (length (T .nodes .time)) (omega (arith, c .nodes)))
+  sizes-over rest t (at-edges a h) = refuse-no 2 1 _ (le-ltb (storedLimits .nodes) (length (T .nodes .time)) (omega (arith, c .nodes))) ∙ refuse-yes 2 2 _ (lt-ltb (storedLimits .edges) (length (T .edges .left)) (omega (arith, c .edges)))
+  sizes-over rest t (at-sites a b h) = refuse-no 2 1 _ (le-ltb (storedLimits .nodes) (length (T .nodes .time)) (omega (arith, c .nodes))) ∙ refuse-no 2 2 _ (le-ltb (storedLimits .edges) (length (T .edges .left)) (omega (arith, c .edges))) ∙ refuse-yes 2 3 _ (lt-ltb (storedLimits .sites) (length (T .sites .position)) (omega (arith, c .sites)))
+  sizes-over rest t (at-muts a b d h) = refuse-no 2 1 _ (le-ltb (storedLimits .nodes) (length (T .nodes .time)) (omega (arith, c .nodes))) ∙ refuse-no 2 2 _ (le-ltb (storedLimits .edges) (length (T .edges .left)) (omega (arith, c .edges))) ∙ refuse-no 2 3 _ (le-ltb (storedLimits .sites) (length (T .sites .position)) (omega (arith, c .sites))) ∙ refuse-yes 2 4 _ (lt-ltb (storedLimits .mutations) (length (T .muts .site)) (omega (arith, c .muts)))
+  sizes-over rest t (at-samples a b d e h) = refuse-no 2 1 _ (le-ltb (storedLimits .nodes) (length (T .nodes .time)) (omega (arith, c .nodes))) ∙ refuse-no 2 2 _ (le-ltb (storedLimits .edges) (length (T .edges .left)) (omega (arith, c .edges))) ∙ refuse-no 2 3 _ (le-ltb (storedLimits .sites) (length (T .sites .position)) (omega (arith, c .sites))) ∙ refuse-no 2 4 _ (le-ltb (storedLimits .mutations) (length (T .muts .site)) (omega (arith, c .muts))) ∙ refuse-yes 2 5 rest (lt-ltb (storedLimits .samples) (length S) (omega (arith, c .samples)))
 
-  pub all-within : Ample n mostRows → Within limits T S
+  pub all-within : Ample n mostRows → Within storedLimits T S
   all-within a = record { nodes = omega (arith, c .nodes, a .nodes); edges = omega (arith, c .edges, a .edges); sites = omega (arith, c .sites, a .sites); muts = omega (arith, c .muts, a .muts); samples = omega (arith, c .samples, a .samples) }
 
 -- ---- rows that fit their fields

@@ -7,7 +7,7 @@ use native.Mathlib.Omega.{arith}
 use lib.ListN.{length}
 use Rattle.meaning.specs.Words.{at, rows}
 use Rattle.meaning.specs.Rows.{Tables}
-use Rattle.meaning.specs.Answer.{Answer, answer, done, limits, accepted, refusalOf, put, left-by}
+use Rattle.meaning.specs.Answer.{Answer, answer, done, storedLimits, accepted, refusalOf, put, left-by}
 use Rattle.meaning.specs.Lent.{countsBy, cellsBy}
 use Rattle.meaning.specs.declared.Refusal.{Refusal}
 use Rattle.meaning.specs.declared.Refusal.the-variants.{Ragged, TooMany, Length, BirthRepeated, EdgeBroken, EdgeOrder, EdgeShared, SiteBroken, MutationBroken, MutationAbove, SampleUnknown, SampleRepeated, NoRoom, BatchRagged, BatchTooMany, BatchBirth, BatchEdge, BatchShared, BatchMutation, BatchAbove, MarkWrong, BytesEnd, BytesFollow, RowsOver, EdgeWide, MutationWide, NoSite, NoBirth}
@@ -68,22 +68,22 @@ unfolding handed ifDone countsBy cellsBy left-by
 handed-refused x a L T S out listOut e = rw e (rw (refusal-not-done x, ifDone, countsBy, cellsBy, left-by))
 
 -- the outcome of reading, by its answer
-by-answer : (s : List ℕ) (out : Tables) (listOut : List ℕ) (x : Refusal) → formThen (form 2 limits) s (roomAnswer limits (tablesIn (found 2 limits s)) (samplesIn (found 2 limits s)) out listOut) ≡ refusalOf x → readOf (read.Refused x) out listOut ≡ reading 2 limits s out listOut
+by-answer : (s : List ℕ) (out : Tables) (listOut : List ℕ) (x : Refusal) → formThen (form 2 storedLimits) s (roomAnswer storedLimits (tablesIn (found 2 storedLimits s)) (samplesIn (found 2 storedLimits s)) out listOut) ≡ refusalOf x → readOf (read.Refused x) out listOut ≡ reading 2 storedLimits s out listOut
 unfolding reading
-by-answer s out listOut x e = handed-refused x (formThen (form 2 limits) s (roomAnswer limits (tablesIn (found 2 limits s)) (samplesIn (found 2 limits s)) out listOut)) (number 4 s 2) (tablesIn (found 2 limits s)) (samplesIn (found 2 limits s)) out listOut e
+by-answer s out listOut x e = handed-refused x (formThen (form 2 storedLimits) s (roomAnswer storedLimits (tablesIn (found 2 storedLimits s)) (samplesIn (found 2 storedLimits s)) out listOut)) (number 4 s 2) (tablesIn (found 2 storedLimits s)) (samplesIn (found 2 storedLimits s)) out listOut e
 
 -- a file that is refused
-pub read-refused : (s : List ℕ) (r : Scan) (x : Refusal) (out : Tables) (listOut : List ℕ) → Scanned s r → r ≡ scan.Refused x → readOf (read.Refused x) out listOut ≡ reading 2 limits s out listOut
+pub read-refused : (s : List ℕ) (r : Scan) (x : Refusal) (out : Tables) (listOut : List ℕ) → Scanned s r → r ≡ scan.Refused x → readOf (read.Refused x) out listOut ≡ reading 2 storedLimits s out listOut
 unfolding Scanned
 read-refused s r x out listOut g e =
     let h : Scanned s (scan.Refused x) = subst (Scanned s) e g in
-    by-answer s out listOut x (h (roomAnswer limits (tablesIn (found 2 limits s)) (samplesIn (found 2 limits s)) out listOut))
+    by-answer s out listOut x (h (roomAnswer storedLimits (tablesIn (found 2 storedLimits s)) (samplesIn (found 2 storedLimits s)) out listOut))
 
 -- a file whose rows are found
 pub record Whole (s : List ℕ) (l : Layout) : Type 0 where
   pub rows : Found s l
   pub first : 6 ≤ length s
-  pub passes : (rest : Answer) → formThen (form 2 limits) s rest ≡ rest
+  pub passes : (rest : Answer) → formThen (form 2 storedLimits) s rest ≡ rest
 
 pub file-whole : (s : List ℕ) (r : Scan) (l : Layout) → Scanned s r → r ≡ scan.Found l → Whole s l
 unfolding Scanned
@@ -106,7 +106,7 @@ after-within k s o h = whole-within (k .first) (k .second) (size k) s (k .most) 
 abbrev pub rows-of : Layout → Rows
 rows-of l = record { nodes = l .nodes .count; edges = l .edges .count; sites = l .sites .count; mutations = l .mutations .count; samples = l .samples .count }
 
-found-counted : (s : List ℕ) (l : Layout) → Found s l → Counted (rows-of l) (tablesIn (found 2 limits s)) (samplesIn (found 2 limits s))
+found-counted : (s : List ℕ) (l : Layout) → Found s l → Counted (rows-of l) (tablesIn (found 2 storedLimits s)) (samplesIn (found 2 storedLimits s))
 unfolding tablesIn samplesIn found form kinds tablesFrom columns rowsAt size total
 found-counted s l f = record {
   nodes = length-rows _ _ ∙ sym (f .nodes .counts);
@@ -144,10 +144,10 @@ moved : (F : ℕ → ℕ → ℕ) {a b z most : ℕ} {s : List ℕ} {o : ℕ} {w
 moved F f old = ap₂ (λ (j n : ℕ). put (rows (F j) n) old) (f .starts) (f .counts)
 
 -- what was taken is what the definitions hand over
-handed-over : (s : List ℕ) (l : Layout) (out : Tables) (listOut : List ℕ) (T : Tables) (S : List ℕ) (L : ℕ) → Found s l → Took s l out listOut T S → L ≡ number 4 s 2 → readOf (read.Done L (rows-of l)) T S ≡ handed done (number 4 s 2) (tablesIn (found 2 limits s)) (samplesIn (found 2 limits s)) out listOut
+handed-over : (s : List ℕ) (l : Layout) (out : Tables) (listOut : List ℕ) (T : Tables) (S : List ℕ) (L : ℕ) → Found s l → Took s l out listOut T S → L ≡ number 4 s 2 → readOf (read.Done L (rows-of l)) T S ≡ handed done (number 4 s 2) (tablesIn (found 2 storedLimits s)) (samplesIn (found 2 storedLimits s)) out listOut
 unfolding handed ifDone countsBy cellsBy left-by tablesIn samplesIn found form kinds tablesFrom columns rowsAt size total
 handed-over s l out listOut T S L f t q =
-    let c : Counted (rows-of l) (tablesIn (found 2 limits s)) (samplesIn (found 2 limits s)) = found-counted s l f in
+    let c : Counted (rows-of l) (tablesIn (found 2 storedLimits s)) (samplesIn (found 2 storedLimits s)) = found-counted s l f in
     let time : _ = t .time ∙ moved (λ j i. number 4 s (j + 2 + i * 10)) (f .nodes) (out .nodes .time) in
     let birth : _ = t .birth ∙ moved (λ j i. number 4 s (j + 2 + 4 + i * 10)) (f .nodes) (out .nodes .birth) in
     let left : _ = t .left ∙ moved (λ j i. number 4 s (j + 2 + i * 14)) (f .edges) (out .edges .left) in
@@ -182,38 +182,38 @@ module _ (s : List ℕ) (l : Layout) (f : Whole s l) (n r : Rows) (e : n ≡ row
   pub ready : x ≡ fault.Nothing → Ready s l out listOut
   ready h =
       let a : Ample (rows-of l) r = ample h in
-      let o1 : nodesFrom limits s ≤ length s = after-within (SA limits) s 6 (f .first) in
-      let o2 : edgesFrom limits s ≤ length s = after-within (ND limits) s (nodesFrom limits s) o1 in
-      let o3 : sitesFrom 2 limits s ≤ length s = after-within (ED 2 limits) s (edgesFrom limits s) o2 in
-      let o4 : mutsFrom 2 limits s ≤ length s = after-within (SI limits) s (sitesFrom 2 limits s) o3 in
+      let o1 : nodesFrom storedLimits s ≤ length s = after-within (SA storedLimits) s 6 (f .first) in
+      let o2 : edgesFrom storedLimits s ≤ length s = after-within (ND storedLimits) s (nodesFrom storedLimits s) o1 in
+      let o3 : sitesFrom 2 storedLimits s ≤ length s = after-within (ED 2 storedLimits) s (edgesFrom storedLimits s) o2 in
+      let o4 : mutsFrom 2 storedLimits s ≤ length s = after-within (SI storedLimits) s (sitesFrom 2 storedLimits s) o3 in
       let nd : _ = room-two (l .nodes .count) (out .nodes .time) (out .nodes .birth) (omega (arith, a .nodes, q .nodes)) in
       let ed : _ = room-four (l .edges .count) (out .edges .left) (out .edges .right) (out .edges .parent) (out .edges .child) (omega (arith, a .edges, q .edges)) in
       let si : _ = room-two (l .sites .count) (out .sites .position) (out .sites .ancestral) (omega (arith, a .sites, q .sites)) in
       let mu : _ = room-three (l .mutations .count) (out .muts .site) (out .muts .node) (out .muts .derived) (omega (arith, a .muts, q .muts)) in
       record {
-        nodes = (stretch-records 78 68 10 (limits .nodes) s (nodesFrom limits s) (l .nodes) (f .rows .nodes) o1, nd .0, nd .1);
-        edges = (stretch-records 69 68 14 (limits .edges) s (edgesFrom limits s) (l .edges) (f .rows .edges) o2, ed .0, ed .1, ed .2, ed .3);
-        sites = (stretch-records 83 73 7 (limits .sites) s (sitesFrom 2 limits s) (l .sites) (f .rows .sites) o3, si .0, si .1);
-        muts = (stretch-records 77 85 7 (limits .mutations) s (mutsFrom 2 limits s) (l .mutations) (f .rows .mutations) o4, mu .0, mu .1, mu .2);
-        samples = (stretch-records 83 65 6 (limits .samples) s 6 (l .samples) (f .rows .samples) (f .first), room-one (l .samples .count) listOut (omega (arith, a .samples, q .samples)));
+        nodes = (stretch-records 78 68 10 (storedLimits .nodes) s (nodesFrom storedLimits s) (l .nodes) (f .rows .nodes) o1, nd .0, nd .1);
+        edges = (stretch-records 69 68 14 (storedLimits .edges) s (edgesFrom storedLimits s) (l .edges) (f .rows .edges) o2, ed .0, ed .1, ed .2, ed .3);
+        sites = (stretch-records 83 73 7 (storedLimits .sites) s (sitesFrom 2 storedLimits s) (l .sites) (f .rows .sites) o3, si .0, si .1);
+        muts = (stretch-records 77 85 7 (storedLimits .mutations) s (mutsFrom 2 storedLimits s) (l .mutations) (f .rows .mutations) o4, mu .0, mu .1, mu .2);
+        samples = (stretch-records 83 65 6 (storedLimits .samples) s 6 (l .samples) (f .rows .samples) (f .first), room-one (l .samples .count) listOut (omega (arith, a .samples, q .samples)));
       }
 
   -- a file that doesn't fit
-  pub read-lacks : (t : ℕ) → x ≡ fault.Table t → readOf (read.Refused (NoRoom t)) out listOut ≡ reading 2 limits s out listOut
+  pub read-lacks : (t : ℕ) → x ≡ fault.Table t → readOf (read.Refused (NoRoom t)) out listOut ≡ reading 2 storedLimits s out listOut
   unfolding Lacking
   read-lacks t h =
-      let T : Tables = tablesIn (found 2 limits s) in
-      let S : List ℕ = samplesIn (found 2 limits s) in
+      let T : Tables = tablesIn (found 2 storedLimits s) in
+      let S : List ℕ = samplesIn (found 2 storedLimits s) in
       let c : Counted n T S = subst (λ m. Counted m T S) (sym e) (found-counted s l (f .rows)) in
-      by-answer s out listOut (NoRoom t) (f .passes (roomAnswer limits T S out listOut) ∙ room-lacks n r T out S listOut c (found-within 2 limits s) q t (subst (Lacking n r) h g))
+      by-answer s out listOut (NoRoom t) (f .passes (roomAnswer storedLimits T S out listOut) ∙ room-lacks n r T out S listOut c (found-within 2 storedLimits s) q t (subst (Lacking n r) h g))
 
   -- a file that is read
-  pub read-done : x ≡ fault.Nothing → (T : Tables) (S : List ℕ) (L : ℕ) → Took s l out listOut T S → L ≡ number 4 s 2 → readOf (read.Done L n) T S ≡ reading 2 limits s out listOut
+  pub read-done : x ≡ fault.Nothing → (T : Tables) (S : List ℕ) (L : ℕ) → Took s l out listOut T S → L ≡ number 4 s 2 → readOf (read.Done L n) T S ≡ reading 2 storedLimits s out listOut
   unfolding reading
   read-done h T S L t k =
-      let T' : Tables = tablesIn (found 2 limits s) in
-      let S' : List ℕ = samplesIn (found 2 limits s) in
-      let d : roomAnswer limits T' S' out listOut ≡ done = none-lacks (rows-of l) r T' out S' listOut (found-counted s l (f .rows)) (found-within 2 limits s) q (ample h) in
+      let T' : Tables = tablesIn (found 2 storedLimits s) in
+      let S' : List ℕ = samplesIn (found 2 storedLimits s) in
+      let d : roomAnswer storedLimits T' S' out listOut ≡ done = none-lacks (rows-of l) r T' out S' listOut (found-counted s l (f .rows)) (found-within 2 storedLimits s) q (ample h) in
       ap (λ m. readOf (read.Done L m) T S) e
       ∙ handed-over s l out listOut T S L (f .rows) t k
-      ∙ ap (λ a. handed a (number 4 s 2) T' S' out listOut) (sym (f .passes (roomAnswer limits T' S' out listOut) ∙ d))
+      ∙ ap (λ a. handed a (number 4 s 2) T' S' out listOut) (sym (f .passes (roomAnswer storedLimits T' S' out listOut) ∙ d))

@@ -9,7 +9,7 @@ use lib.Dec.{ltb}
 use lib.ListN.{length}
 use Rattle.meaning.specs.Words.{or}
 use Rattle.meaning.specs.Rows.{Tables}
-use Rattle.meaning.specs.Answer.{Answer, answer, done, limits, lacks, room}
+use Rattle.meaning.specs.Answer.{Answer, answer, done, storedLimits, lacks, room}
 use Rattle.meaning.specs.Lent.{fitThen}
 use Rattle.meaning.specs.Files.{roomAnswer}
 use Rattle.form.specs.Refusals.{refuse-no, refuse-yes}
@@ -25,50 +25,50 @@ lacks-yes : (most : ℕ) (cols : List (List ℕ)) (need : ℕ) → need ≤ most
 unfolding lacks
 lacks-yes most cols need h l = rw (le-ltb most need h, lt-ltb (room cols) need l)
 
-module _ (n r : Rows) (T out : Tables) (S listOut : List ℕ) (c : Counted n T S) (w : Within limits T S) (q : Roomed r out listOut) where
-  nodes-no : n .nodes ≤ r .nodes → lacks (limits .nodes) (out .nodes .time ∷ out .nodes .birth ∷ []) (length (T .nodes .time)) ≡ false
-  nodes-no h = lacks-no (limits .nodes) (out .nodes .time ∷ out .nodes .birth ∷ []) (length (T .nodes .time)) (w .nodes) (omega (arith, c .nodes, q .nodes))
+module _ (n r : Rows) (T out : Tables) (S listOut : List ℕ) (c : Counted n T S) (w : Within storedLimits T S) (q : Roomed r out listOut) where
+  nodes-no : n .nodes ≤ r .nodes → lacks (storedLimits .nodes) (out .nodes .time ∷ out .nodes .birth ∷ []) (length (T .nodes .time)) ≡ false
+  nodes-no h = lacks-no (storedLimits .nodes) (out .nodes .time ∷ out .nodes .birth ∷ []) (length (T .nodes .time)) (w .nodes) (omega (arith, c .nodes, q .nodes))
 
-  edges-no : n .edges ≤ r .edges → lacks (limits .edges) (out .edges .left ∷ out .edges .right ∷ out .edges .parent ∷ out .edges .child ∷ []) (length (T .edges .left)) ≡ false
-  edges-no h = lacks-no (limits .edges) (out .edges .left ∷ out .edges .right ∷ out .edges .parent ∷ out .edges .child ∷ []) (length (T .edges .left)) (w .edges) (omega (arith, c .edges, q .edges))
+  edges-no : n .edges ≤ r .edges → lacks (storedLimits .edges) (out .edges .left ∷ out .edges .right ∷ out .edges .parent ∷ out .edges .child ∷ []) (length (T .edges .left)) ≡ false
+  edges-no h = lacks-no (storedLimits .edges) (out .edges .left ∷ out .edges .right ∷ out .edges .parent ∷ out .edges .child ∷ []) (length (T .edges .left)) (w .edges) (omega (arith, c .edges, q .edges))
 
-  sites-no : n .sites ≤ r .sites → lacks (limits .sites) (out .sites .position ∷ out .sites .ancestral ∷ []) (length (T .sites .position)) ≡ false
-  sites-no h = lacks-no (limits .sites) (out .sites .position ∷ out .sites .ancestral ∷ []) (length (T .sites .position)) (w .sites) (omega (arith, c .sites, q .sites))
+  sites-no : n .sites ≤ r .sites → lacks (storedLimits .sites) (out .sites .position ∷ out .sites .ancestral ∷ []) (length (T .sites .position)) ≡ false
+  sites-no h = lacks-no (storedLimits .sites) (out .sites .position ∷ out .sites .ancestral ∷ []) (length (T .sites .position)) (w .sites) (omega (arith, c .sites, q .sites))
 
-  muts-no : n .mutations ≤ r .mutations → lacks (limits .mutations) (out .muts .site ∷ out .muts .node ∷ out .muts .derived ∷ []) (length (T .muts .site)) ≡ false
-  muts-no h = lacks-no (limits .mutations) (out .muts .site ∷ out .muts .node ∷ out .muts .derived ∷ []) (length (T .muts .site)) (w .muts) (omega (arith, c .muts, q .muts))
+  muts-no : n .mutations ≤ r .mutations → lacks (storedLimits .mutations) (out .muts .site ∷ out .muts .node ∷ out .muts .derived ∷ []) (length (T .muts .site)) ≡ false
+  muts-no h = lacks-no (storedLimits .mutations) (out .muts .site ∷ out .muts .node ∷ out .muts .derived ∷ []) (length (T .muts .site)) (w .muts) (omega (arith, c .muts, q .muts))
 
-  nodes-lack : r .nodes < n .nodes → roomAnswer limits T S out listOut ≡ answer 13 1
+  nodes-lack : r .nodes < n .nodes → roomAnswer storedLimits T S out listOut ≡ answer 13 1
   unfolding roomAnswer fitThen
-  nodes-lack h = refuse-yes 13 1 _ (lacks-yes (limits .nodes) (out .nodes .time ∷ out .nodes .birth ∷ []) (length (T .nodes .time)) (w .nodes) (omega (arith, c .nodes, q .nodes)))
+  nodes-lack h = refuse-yes 13 1 _ (lacks-yes (storedLimits .nodes) (out .nodes .time ∷ out .nodes .birth ∷ []) (length (T .nodes .time)) (w .nodes) (omega (arith, c .nodes, q .nodes)))
 
-  edges-lack : n .nodes ≤ r .nodes → r .edges < n .edges → roomAnswer limits T S out listOut ≡ answer 13 2
+  edges-lack : n .nodes ≤ r .nodes → r .edges < n .edges → roomAnswer storedLimits T S out listOut ≡ answer 13 2
   unfolding roomAnswer fitThen
-  edges-lack a h = refuse-no 13 1 _ (nodes-no a) ∙ refuse-yes 13 2 _ (lacks-yes (limits .edges) (out .edges .left ∷ out .edges .right ∷ out .edges .parent ∷ out .edges .child ∷ []) (length (T .edges .left)) (w .edges) (omega (arith, c .edges, q .edges)))
+  edges-lack a h = refuse-no 13 1 _ (nodes-no a) ∙ refuse-yes 13 2 _ (lacks-yes (storedLimits .edges) (out .edges .left ∷ out .edges .right ∷ out .edges .parent ∷ out .edges .child ∷ []) (length (T .edges .left)) (w .edges) (omega (arith, c .edges, q .edges)))
 
-  sites-lack : n .nodes ≤ r .nodes → n .edges ≤ r .edges → r .sites < n .sites → roomAnswer limits T S out listOut ≡ answer 13 3
+  sites-lack : n .nodes ≤ r .nodes → n .edges ≤ r .edges → r .sites < n .sites → roomAnswer storedLimits T S out listOut ≡ answer 13 3
   unfolding roomAnswer fitThen
-  sites-lack a b h = refuse-no 13 1 _ (nodes-no a) ∙ refuse-no 13 2 _ (edges-no b) ∙ refuse-yes 13 3 _ (lacks-yes (limits .sites) (out .sites .position ∷ out .sites .ancestral ∷ []) (length (T .sites .position)) (w .sites) (omega (arith, c .sites, q .sites)))
+  sites-lack a b h = refuse-no 13 1 _ (nodes-no a) ∙ refuse-no 13 2 _ (edges-no b) ∙ refuse-yes 13 3 _ (lacks-yes (storedLimits .sites) (out .sites .position ∷ out .sites .ancestral ∷ []) (length (T .sites .position)) (w .sites) (omega (arith, c .sites, q .sites)))
 
-  muts-lack : n .nodes ≤ r .nodes → n .edges ≤ r .edges → n .sites ≤ r .sites → r .mutations < n .mutations → roomAnswer limits T S out listOut ≡ answer 13 4
+  muts-lack : n .nodes ≤ r .nodes → n .edges ≤ r .edges → n .sites ≤ r .sites → r .mutations < n .mutations → roomAnswer storedLimits T S out listOut ≡ answer 13 4
   unfolding roomAnswer fitThen
-  muts-lack a b d h = refuse-no 13 1 _ (nodes-no a) ∙ refuse-no 13 2 _ (edges-no b) ∙ refuse-no 13 3 _ (sites-no d) ∙ refuse-yes 13 4 _ (lacks-yes (limits .mutations) (out .muts .site ∷ out .muts .node ∷ out .muts .derived ∷ []) (length (T .muts .site)) (w .muts) (omega (arith, c .muts, q .muts)))
+  muts-lack a b d h = refuse-no 13 1 _ (nodes-no a) ∙ refuse-no 13 2 _ (edges-no b) ∙ refuse-no 13 3 _ (sites-no d) ∙ refuse-yes 13 4 _ (lacks-yes (storedLimits .mutations) (out .muts .site ∷ out .muts .node ∷ out .muts .derived ∷ []) (length (T .muts .site)) (w .muts) (omega (arith, c .muts, q .muts)))
 
-  samples-lack : n .nodes ≤ r .nodes → n .edges ≤ r .edges → n .sites ≤ r .sites → n .mutations ≤ r .mutations → r .samples < n .samples → roomAnswer limits T S out listOut ≡ answer 13 5
+  samples-lack : n .nodes ≤ r .nodes → n .edges ≤ r .edges → n .sites ≤ r .sites → n .mutations ≤ r .mutations → r .samples < n .samples → roomAnswer storedLimits T S out listOut ≡ answer 13 5
   unfolding roomAnswer fitThen
-  samples-lack a b d e h = refuse-no 13 1 _ (nodes-no a) ∙ refuse-no 13 2 _ (edges-no b) ∙ refuse-no 13 3 _ (sites-no d) ∙ refuse-no 13 4 _ (muts-no e) ∙ refuse-yes 13 5 done (lacks-yes (limits .samples) (listOut ∷ []) (length S) (w .samples) (omega (arith, c .samples, q .samples)))
+  samples-lack a b d e h = refuse-no 13 1 _ (nodes-no a) ∙ refuse-no 13 2 _ (edges-no b) ∙ refuse-no 13 3 _ (sites-no d) ∙ refuse-no 13 4 _ (muts-no e) ∙ refuse-yes 13 5 done (lacks-yes (storedLimits .samples) (listOut ∷ []) (length S) (w .samples) (omega (arith, c .samples, q .samples)))
 
   -- 13 with the lowest table that lacks room
-  pub room-lacks : (t : ℕ) → Lowest n r t → roomAnswer limits T S out listOut ≡ answer 13 t
+  pub room-lacks : (t : ℕ) → Lowest n r t → roomAnswer storedLimits T S out listOut ≡ answer 13 t
   room-lacks t (at-nodes h) = nodes-lack h
   room-lacks t (at-edges a h) = edges-lack a h
   room-lacks t (at-sites a b h) = sites-lack a b h
   room-lacks t (at-muts a b d h) = muts-lack a b d h
   room-lacks t (at-samples a b d e h) = samples-lack a b d e h
 
-  pub none-lacks : Ample n r → roomAnswer limits T S out listOut ≡ done
+  pub none-lacks : Ample n r → roomAnswer storedLimits T S out listOut ≡ done
   unfolding roomAnswer fitThen
-  none-lacks a = refuse-no 13 1 _ (nodes-no (a .nodes)) ∙ refuse-no 13 2 _ (edges-no (a .edges)) ∙ refuse-no 13 3 _ (sites-no (a .sites)) ∙ refuse-no 13 4 _ (muts-no (a .muts)) ∙ refuse-no 13 5 done (lacks-no (limits .samples) (listOut ∷ []) (length S) (w .samples) (omega (arith, a .samples, c .samples, q .samples)))
+  none-lacks a = refuse-no 13 1 _ (nodes-no (a .nodes)) ∙ refuse-no 13 2 _ (edges-no (a .edges)) ∙ refuse-no 13 3 _ (sites-no (a .sites)) ∙ refuse-no 13 4 _ (muts-no (a .muts)) ∙ refuse-no 13 5 done (lacks-no (storedLimits .samples) (listOut ∷ []) (length S) (w .samples) (omega (arith, a .samples, c .samples, q .samples)))
 
 -- ---- where a table has room, each of its columns has
 

@@ -9,7 +9,7 @@ use lib.Dec.{ltb}
 use lib.ListN.{length, length-append}
 use Rattle.meaning.specs.Words.{lowest}
 use Rattle.meaning.specs.Rows.{Tables}
-use Rattle.meaning.specs.Answer.{Answer, answer, done, limits, refuse, refuseRow, accepted, refusalOf, put, left-by}
+use Rattle.meaning.specs.Answer.{Answer, answer, done, storedLimits, refuse, refuseRow, accepted, refusalOf, put, left-by}
 use Rattle.meaning.specs.Check.{shapes, sizes, tooMany}
 use Rattle.meaning.specs.declared.Refusal.{Refusal}
 use Rattle.meaning.specs.declared.Refusal.the-variants.{Ragged, TooMany, NoRoom, EdgeWide, MutationWide}
@@ -42,11 +42,11 @@ unfolding refuseRow
 row-yes n m broken rest h = refuse-yes n (lowest broken m) rest (lt-ltb (lowest broken m) m h)
 
 module _ (L : ℕ) (T : Tables) (S out : List ℕ) where
-  by-answer : (x : Refusal) → writeAnswer 2 limits L T S (length out) ≡ refusalOf x → writtenOf (write.Refused x) out ≡ writing 2 limits L T S out
+  by-answer : (x : Refusal) → writeAnswer 2 storedLimits L T S (length out) ≡ refusalOf x → writtenOf (write.Refused x) out ≡ writing 2 storedLimits L T S out
   unfolding writing
-  by-answer x e = laid-refused x (writeAnswer 2 limits L T S (length out)) (written 2 limits L T S) out e
+  by-answer x e = laid-refused x (writeAnswer 2 storedLimits L T S (length out)) (written 2 storedLimits L T S) out e
 
-  pub write-ragged : (n : Lengths) → Long n T → (r : Fault) → Uneven n r → (t : ℕ) → r ≡ fault.Table t → writtenOf (write.Refused (Ragged t)) out ≡ writing 2 limits L T S out
+  pub write-ragged : (n : Lengths) → Long n T → (r : Fault) → Uneven n r → (t : ℕ) → r ≡ fault.Table t → writtenOf (write.Refused (Ragged t)) out ≡ writing 2 storedLimits L T S out
   unfolding Uneven writeAnswer
   write-ragged n l r u t e = by-answer (Ragged t) (subst (Uneven n) e u T _ l)
 
@@ -54,7 +54,7 @@ module _ (L : ℕ) (T : Tables) (S out : List ℕ) where
   unfolding Uneven
   write-shaped n l r u e = subst (Uneven n) e u T l
 
-  pub write-over : Shaped T → (n : Rows) → Counted n T S → (most : Rows) → most ≡ mostRows → (r : Fault) → Lacking n most r → (t : ℕ) → r ≡ fault.Table t → writtenOf (write.Refused (TooMany t)) out ≡ writing 2 limits L T S out
+  pub write-over : Shaped T → (n : Rows) → Counted n T S → (most : Rows) → most ≡ mostRows → (r : Fault) → Lacking n most r → (t : ℕ) → r ≡ fault.Table t → writtenOf (write.Refused (TooMany t)) out ≡ writing 2 storedLimits L T S out
   unfolding Lacking writeAnswer
   write-over s n c most q r u t e =
       let h : Lowest n mostRows t = subst (λ m. Lowest n m t) q (subst (Lacking n most) e u) in
@@ -64,11 +64,11 @@ module _ (L : ℕ) (T : Tables) (S out : List ℕ) where
   unfolding Lacking
   write-ample n most q r u e = subst (λ m. Ample n m) q (subst (Lacking n most) e u)
 
-  module _ (s : Shaped T) (w : Within limits T S) where
-    pub write-edge : (m e : ℕ) → m ≡ length (T .edges .left) → e ≡ lowest (tooWide 2 (T .edges .parent) (T .edges .child)) m → e < m → writtenOf (write.Refused (EdgeWide e)) out ≡ writing 2 limits L T S out
+  module _ (s : Shaped T) (w : Within storedLimits T S) where
+    pub write-edge : (m e : ℕ) → m ≡ length (T .edges .left) → e ≡ lowest (tooWide 2 (T .edges .parent) (T .edges .child)) m → e < m → writtenOf (write.Refused (EdgeWide e)) out ≡ writing 2 storedLimits L T S out
     write-edge m e q p h =
         let g : e ≡ lowest (tooWide 2 (T .edges .parent) (T .edges .child)) (length (T .edges .left)) = p ∙ ap (lowest (tooWide 2 (T .edges .parent) (T .edges .child))) q in
-        by-answer (EdgeWide e) (write-sized 2 limits L T S (length out) s w ∙ row-yes 35 (length (T .edges .left)) (tooWide 2 (T .edges .parent) (T .edges .child)) _ (omega arith) ∙ ap (answer 35) (sym g))
+        by-answer (EdgeWide e) (write-sized 2 storedLimits L T S (length out) s w ∙ row-yes 35 (length (T .edges .left)) (tooWide 2 (T .edges .parent) (T .edges .child)) _ (omega arith) ∙ ap (answer 35) (sym g))
 
     pub edges-narrow : (m e : ℕ) → m ≡ length (T .edges .left) → e ≡ lowest (tooWide 2 (T .edges .parent) (T .edges .child)) m → m ≤ e → (i : ℕ) → i < length (T .edges .left) → tooWide 2 (T .edges .parent) (T .edges .child) i ≡ false
     edges-narrow m e q p h i l = none-passes (tooWide 2 (T .edges .parent) (T .edges .child)) m i (omega arith) (omega arith)
@@ -76,27 +76,27 @@ module _ (L : ℕ) (T : Tables) (S out : List ℕ) where
     pub muts-narrow : (e : ℕ) → e ≡ lowest (tooWide 2 (T .muts .site) (T .muts .node)) (length (T .muts .site)) → length (T .muts .site) ≤ e → (i : ℕ) → i < length (T .muts .site) → tooWide 2 (T .muts .site) (T .muts .node) i ≡ false
     muts-narrow e p h i l = none-passes (tooWide 2 (T .muts .site) (T .muts .node)) (length (T .muts .site)) i (omega arith) l
 
-    pub write-mutation : ((i : ℕ) → i < length (T .edges .left) → tooWide 2 (T .edges .parent) (T .edges .child) i ≡ false) → (e : ℕ) → e ≡ lowest (tooWide 2 (T .muts .site) (T .muts .node)) (length (T .muts .site)) → e < length (T .muts .site) → writtenOf (write.Refused (MutationWide e)) out ≡ writing 2 limits L T S out
+    pub write-mutation : ((i : ℕ) → i < length (T .edges .left) → tooWide 2 (T .edges .parent) (T .edges .child) i ≡ false) → (e : ℕ) → e ≡ lowest (tooWide 2 (T .muts .site) (T .muts .node)) (length (T .muts .site)) → e < length (T .muts .site) → writtenOf (write.Refused (MutationWide e)) out ≡ writing 2 storedLimits L T S out
     write-mutation n e p h =
-        by-answer (MutationWide e) (write-sized 2 limits L T S (length out) s w ∙ row-no 35 (length (T .edges .left)) (tooWide 2 (T .edges .parent) (T .edges .child)) _ n ∙ row-yes 36 (length (T .muts .site)) (tooWide 2 (T .muts .site) (T .muts .node)) _ (omega arith) ∙ ap (answer 36) (sym p))
+        by-answer (MutationWide e) (write-sized 2 storedLimits L T S (length out) s w ∙ row-no 35 (length (T .edges .left)) (tooWide 2 (T .edges .parent) (T .edges .child)) _ n ∙ row-yes 36 (length (T .muts .site)) (tooWide 2 (T .muts .site) (T .muts .node)) _ (omega arith) ∙ ap (answer 36) (sym p))
 
 -- ---- the whole file
 
 module _ (L : ℕ) (T : Tables) (S : List ℕ) where
   abbrev sa : List ℕ
-  sa = recordsFrom (SA limits) (S ∷ []) 0 (length S)
+  sa = recordsFrom (SA storedLimits) (S ∷ []) 0 (length S)
 
   abbrev nd : List ℕ
-  nd = recordsFrom (ND limits) (T .nodes .time ∷ T .nodes .birth ∷ []) 0 (length (T .nodes .time))
+  nd = recordsFrom (ND storedLimits) (T .nodes .time ∷ T .nodes .birth ∷ []) 0 (length (T .nodes .time))
 
   abbrev ed : List ℕ
-  ed = recordsFrom (ED 2 limits) (T .edges .left ∷ T .edges .right ∷ T .edges .parent ∷ T .edges .child ∷ []) 0 (length (T .edges .left))
+  ed = recordsFrom (ED 2 storedLimits) (T .edges .left ∷ T .edges .right ∷ T .edges .parent ∷ T .edges .child ∷ []) 0 (length (T .edges .left))
 
   abbrev si : List ℕ
-  si = recordsFrom (SI limits) (T .sites .position ∷ T .sites .ancestral ∷ []) 0 (length (T .sites .position))
+  si = recordsFrom (SI storedLimits) (T .sites .position ∷ T .sites .ancestral ∷ []) 0 (length (T .sites .position))
 
   abbrev mu : List ℕ
-  mu = recordsFrom (MU 2 limits) (T .muts .site ∷ T .muts .node ∷ T .muts .derived ∷ []) 0 (length (T .muts .site))
+  mu = recordsFrom (MU 2 storedLimits) (T .muts .site ∷ T .muts .node ∷ T .muts .derived ∷ []) 0 (length (T .muts .site))
 
   abbrev hd : List ℕ
   hd = 83 ∷ 81 ∷ bytesOf 4 L
@@ -104,29 +104,29 @@ module _ (L : ℕ) (T : Tables) (S : List ℕ) where
   abbrev en : List ℕ
   en = 69 ∷ 78 ∷ []
 
-  pieces : (((((hd ++ sa) ++ nd) ++ ed) ++ si) ++ mu) ++ en ≡ written 2 limits L T S
+  pieces : (((((hd ++ sa) ++ nd) ++ ed) ++ si) ++ mu) ++ en ≡ written 2 storedLimits L T S
   unfolding written form formBytes kinds kindsBytes filed height
   pieces = simp append-assoc
 
   length-sa : length sa ≡ length S * 6
   unfolding size total
-  length-sa = length-records (SA limits) (S ∷ []) 0 (length S) refl
+  length-sa = length-records (SA storedLimits) (S ∷ []) 0 (length S) refl
 
   length-nd : length nd ≡ length (T .nodes .time) * 10
   unfolding size total
-  length-nd = length-records (ND limits) (T .nodes .time ∷ T .nodes .birth ∷ []) 0 (length (T .nodes .time)) refl
+  length-nd = length-records (ND storedLimits) (T .nodes .time ∷ T .nodes .birth ∷ []) 0 (length (T .nodes .time)) refl
 
   length-ed : length ed ≡ length (T .edges .left) * 14
   unfolding size total
-  length-ed = length-records (ED 2 limits) (T .edges .left ∷ T .edges .right ∷ T .edges .parent ∷ T .edges .child ∷ []) 0 (length (T .edges .left)) refl
+  length-ed = length-records (ED 2 storedLimits) (T .edges .left ∷ T .edges .right ∷ T .edges .parent ∷ T .edges .child ∷ []) 0 (length (T .edges .left)) refl
 
   length-si : length si ≡ length (T .sites .position) * 7
   unfolding size total
-  length-si = length-records (SI limits) (T .sites .position ∷ T .sites .ancestral ∷ []) 0 (length (T .sites .position)) refl
+  length-si = length-records (SI storedLimits) (T .sites .position ∷ T .sites .ancestral ∷ []) 0 (length (T .sites .position)) refl
 
   length-mu : length mu ≡ length (T .muts .site) * 7
   unfolding size total
-  length-mu = length-records (MU 2 limits) (T .muts .site ∷ T .muts .node ∷ T .muts .derived ∷ []) 0 (length (T .muts .site)) refl
+  length-mu = length-records (MU 2 storedLimits) (T .muts .site ∷ T .muts .node ∷ T .muts .derived ∷ []) 0 (length (T .muts .site)) refl
 
   length-hd : length hd ≡ 6
   length-hd = omega (arith, length-bytes 4 L)
@@ -147,12 +147,12 @@ module _ (L : ℕ) (T : Tables) (S : List ℕ) where
   length-5 : length (((((hd ++ sa) ++ nd) ++ ed) ++ si) ++ mu) ≡ 6 + length S * 6 + length (T .nodes .time) * 10 + length (T .edges .left) * 14 + length (T .sites .position) * 7 + length (T .muts .site) * 7
   length-5 = omega (arith, length-append ((((hd ++ sa) ++ nd) ++ ed) ++ si) mu, length-4, length-mu)
 
-  pub length-written : length (written 2 limits L T S) ≡ 8 + length S * 6 + length (T .nodes .time) * 10 + length (T .edges .left) * 14 + length (T .sites .position) * 7 + length (T .muts .site) * 7
+  pub length-written : length (written 2 storedLimits L T S) ≡ 8 + length S * 6 + length (T .nodes .time) * 10 + length (T .edges .left) * 14 + length (T .sites .position) * 7 + length (T .muts .site) * 7
   length-written = sym (ap length pieces) ∙ omega (arith, length-append (((((hd ++ sa) ++ nd) ++ ed) ++ si) ++ mu) en, length-5)
 
-  module _ (out : List ℕ) (s : Shaped T) (w : Within limits T S) (n : Narrow 2 T) where
-    pub write-full : length out < 8 + length S * 6 + length (T .nodes .time) * 10 + length (T .edges .left) * 14 + length (T .sites .position) * 7 + length (T .muts .site) * 7 → writtenOf (write.Refused (NoRoom 7)) out ≡ writing 2 limits L T S out
-    write-full h = by-answer L T S out (NoRoom 7) (write-passes 2 limits L T S (length out) s w n ∙ refuse-yes 13 7 done (lt-ltb (length out) (length (written 2 limits L T S)) (omega (arith, length-written))))
+  module _ (out : List ℕ) (s : Shaped T) (w : Within storedLimits T S) (n : Narrow 2 T) where
+    pub write-full : length out < 8 + length S * 6 + length (T .nodes .time) * 10 + length (T .edges .left) * 14 + length (T .sites .position) * 7 + length (T .muts .site) * 7 → writtenOf (write.Refused (NoRoom 7)) out ≡ writing 2 storedLimits L T S out
+    write-full h = by-answer L T S out (NoRoom 7) (write-passes 2 storedLimits L T S (length out) s w n ∙ refuse-yes 13 7 done (lt-ltb (length out) (length (written 2 storedLimits L T S)) (omega (arith, length-written))))
 
     -- the pieces laid one after the other
     pub record Steps (o1 o2 o3 o4 o5 o6 o7 : List ℕ) (a b c d e : ℕ) : Type 0 where
@@ -165,7 +165,7 @@ module _ (L : ℕ) (T : Tables) (S : List ℕ) where
       pub end : o7 ≡ lay e en o6
 
     -- the file, and no more
-    pub write-done : {o1 o2 o3 o4 o5 o6 o7 : List ℕ} {a b c d e : ℕ} (count : ℕ) → count ≡ 8 + length S * 6 + length (T .nodes .time) * 10 + length (T .edges .left) * 14 + length (T .sites .position) * 7 + length (T .muts .site) * 7 → count ≤ length out → Steps o1 o2 o3 o4 o5 o6 o7 a b c d e → writtenOf (write.Done count) o7 ≡ writing 2 limits L T S out
+    pub write-done : {o1 o2 o3 o4 o5 o6 o7 : List ℕ} {a b c d e : ℕ} (count : ℕ) → count ≡ 8 + length S * 6 + length (T .nodes .time) * 10 + length (T .edges .left) * 14 + length (T .sites .position) * 7 + length (T .muts .site) * 7 → count ≤ length out → Steps o1 o2 o3 o4 o5 o6 o7 a b c d e → writtenOf (write.Done count) o7 ≡ writing 2 storedLimits L T S out
     unfolding writing laid ifDone left-by
     write-done {o1} {o2} {o3} {o4} {o5} {o6} {o7} {a} {b} {c} {d} {e} count q h t =
         let r : 8 + length S * 6 + length (T .nodes .time) * 10 + length (T .edges .left) * 14 + length (T .sites .position) * 7 + length (T .muts .site) * 7 ≤ length out = omega arith in
@@ -175,11 +175,11 @@ module _ (L : ℕ) (T : Tables) (S : List ℕ) where
         let e4 : o5 ≡ lay 0 ((((hd ++ sa) ++ nd) ++ ed) ++ si) out = lay-chain 0 c (((hd ++ sa) ++ nd) ++ ed) si out e3 (t .sites .1) (omega (arith, t .samples .0, t .nodes .0, t .edges .0, length-3)) (omega (arith, t .samples .0, t .nodes .0, t .edges .0, length-si)) in
         let e5 : o6 ≡ lay 0 (((((hd ++ sa) ++ nd) ++ ed) ++ si) ++ mu) out = lay-chain 0 d ((((hd ++ sa) ++ nd) ++ ed) ++ si) mu out e4 (t .muts .1) (omega (arith, t .samples .0, t .nodes .0, t .edges .0, t .sites .0, length-4)) (omega (arith, t .samples .0, t .nodes .0, t .edges .0, t .sites .0, length-mu)) in
         let e6 : o7 ≡ lay 0 ((((((hd ++ sa) ++ nd) ++ ed) ++ si) ++ mu) ++ en) out = lay-chain 0 e (((((hd ++ sa) ++ nd) ++ ed) ++ si) ++ mu) en out e5 (t .end) (omega (arith, t .samples .0, t .nodes .0, t .edges .0, t .sites .0, t .muts .0, length-5)) (omega (arith, t .samples .0, t .nodes .0, t .edges .0, t .sites .0, t .muts .0)) in
-        let f : o7 ≡ put (written 2 limits L T S) out = e6 ∙ ap (λ l. lay 0 l out) pieces ∙ lay-front (written 2 limits L T S) out in
-        let g : count ≡ length (written 2 limits L T S) = q ∙ sym length-written in
-        let k : writeAnswer 2 limits L T S (length out) ≡ done = write-passes 2 limits L T S (length out) s w n ∙ refuse-no 13 7 done (le-ltb (length out) (length (written 2 limits L T S)) (omega arith)) in
+        let f : o7 ≡ put (written 2 storedLimits L T S) out = e6 ∙ ap (λ l. lay 0 l out) pieces ∙ lay-front (written 2 storedLimits L T S) out in
+        let g : count ≡ length (written 2 storedLimits L T S) = q ∙ sym length-written in
+        let k : writeAnswer 2 storedLimits L T S (length out) ≡ done = write-passes 2 storedLimits L T S (length out) s w n ∙ refuse-no 13 7 done (le-ltb (length out) (length (written 2 storedLimits L T S)) (omega arith)) in
         ap₂ (λ (x : ℕ) (y : List ℕ). record { answer = done; bytes = x; cells = y }) g f
-        ∙ ap (λ x. laid x (written 2 limits L T S) out) (sym k)
+        ∙ ap (λ x. laid x (written 2 storedLimits L T S) out) (sym k)
 
 -- ---- columns of one length, one by one
 

@@ -4,7 +4,7 @@ use mathlib.Core.List.{List, [], _∷_}
 use Prim.Native.Nat.{ℕ, _<_, _≤_}
 use lib.ListN.{length}
 use Rattle.meaning.specs.Rows.{Tables}
-use Rattle.meaning.specs.Answer.{Answer, answer, done, limits, refusalOf, room}
+use Rattle.meaning.specs.Answer.{Answer, answer, done, storedLimits, refusalOf, room}
 use Rattle.meaning.specs.Check.{shapes}
 use Rattle.meaning.specs.Files.{Reading, Writing}
 use Rattle.stored.specs.Admitted.{Shaped}
@@ -81,7 +81,7 @@ Lacking n r (fault.Table t) = Lowest n r t
 
 -- the limits, as so many rows
 abbrev pub mostRows : Rows
-mostRows = record { nodes = limits .nodes; edges = limits .edges; sites = limits .sites; mutations = limits .mutations; samples = limits .samples }
+mostRows = record { nodes = storedLimits .nodes; edges = storedLimits .edges; sites = storedLimits .sites; mutations = storedLimits .mutations; samples = storedLimits .samples }
 
 -- ---- columns of one length
 

@@ -3,7 +3,7 @@ use mathlib.Core.Path.{_≡_, refl}
 use mathlib.Core.List.{List, [], _∷_, _++_}
 use Prim.Native.Nat.{ℕ}
 use Rattle.meaning.specs.Rows.{Tables}
-use Rattle.meaning.specs.Answer.{Answer, Limits, answer, done, limits}
+use Rattle.meaning.specs.Answer.{Answer, Limits, answer, done, storedLimits}
 use Rattle.meaning.specs.Stored.{form, formThen}
 use Rattle.meaning.specs.Files.{found, samplesIn, tablesIn, written}
 
@@ -33,21 +33,21 @@ tables = record {
 }
 
 pub record ByHand : Type 0 where
-  pub empty : formThen (form 2 limits) [] done ≡ answer 32 0
-  pub lone-byte : formThen (form 2 limits) (83 ∷ []) done ≡ answer 32 0
-  pub no-first : formThen (form 2 limits) en done ≡ answer 31 0
-  pub first-cut : formThen (form 2 limits) (83 ∷ 81 ∷ 10 ∷ 0 ∷ 0 ∷ []) done ≡ answer 32 0
-  pub no-end : formThen (form 2 limits) (sq ++ sa) done ≡ answer 32 12
-  pub lone-last : formThen (form 2 limits) (sq ++ (sa ++ (83 ∷ []))) done ≡ answer 32 12
-  pub cut : formThen (form 2 limits) (sq ++ (sa ++ (83 ∷ 65 ∷ 1 ∷ []))) done ≡ answer 32 12
-  pub out-of-order : formThen (form 2 limits) (sq ++ (nd ++ (sa ++ en))) done ≡ answer 31 16
-  pub follows : formThen (form 2 limits) (sq ++ (sa ++ (nd ++ (en ++ (10 ∷ []))))) done ≡ answer 33 24
+  pub empty : formThen (form 2 storedLimits) [] done ≡ answer 32 0
+  pub lone-byte : formThen (form 2 storedLimits) (83 ∷ []) done ≡ answer 32 0
+  pub no-first : formThen (form 2 storedLimits) en done ≡ answer 31 0
+  pub first-cut : formThen (form 2 storedLimits) (83 ∷ 81 ∷ 10 ∷ 0 ∷ 0 ∷ []) done ≡ answer 32 0
+  pub no-end : formThen (form 2 storedLimits) (sq ++ sa) done ≡ answer 32 12
+  pub lone-last : formThen (form 2 storedLimits) (sq ++ (sa ++ (83 ∷ []))) done ≡ answer 32 12
+  pub cut : formThen (form 2 storedLimits) (sq ++ (sa ++ (83 ∷ 65 ∷ 1 ∷ []))) done ≡ answer 32 12
+  pub out-of-order : formThen (form 2 storedLimits) (sq ++ (nd ++ (sa ++ en))) done ≡ answer 31 16
+  pub follows : formThen (form 2 storedLimits) (sq ++ (sa ++ (nd ++ (en ++ (10 ∷ []))))) done ≡ answer 33 24
   -- one row more than the limit, "even where its fields are cut"
   pub over : formThen (form 2 none) (sq ++ (83 ∷ 65 ∷ [])) done ≡ answer 34 6
-  pub accepted : formThen (form 2 limits) (sq ++ (sa ++ (nd ++ en))) done ≡ done
-  pub samples : samplesIn (found 2 limits (sq ++ (sa ++ (nd ++ en)))) ≡ 501 ∷ []
-  pub rows : tablesIn (found 2 limits (sq ++ (sa ++ (nd ++ en)))) ≡ tables
-  pub back : written 2 limits 10 tables (501 ∷ []) ≡ sq ++ (sa ++ (nd ++ en))
+  pub accepted : formThen (form 2 storedLimits) (sq ++ (sa ++ (nd ++ en))) done ≡ done
+  pub samples : samplesIn (found 2 storedLimits (sq ++ (sa ++ (nd ++ en)))) ≡ 501 ∷ []
+  pub rows : tablesIn (found 2 storedLimits (sq ++ (sa ++ (nd ++ en)))) ≡ tables
+  pub back : written 2 storedLimits 10 tables (501 ∷ []) ≡ sq ++ (sa ++ (nd ++ en))
 
 pub by-hand : ByHand
 unfolding formThen form found samplesIn tablesIn written

@@ -1,7 +1,7 @@
 // Reading and writing 01's stored form. What the bytes mean is in crate `form`; answers and round trips are in specs/.
 ghost use mathlib.Core.Path.{_≡_};
 ghost use Rattle.meaning.specs.Rows.{nodeTable, edgeTable, siteTable, mutationTable, tables};
-ghost use Rattle.meaning.specs.Answer.{limits};
+ghost use Rattle.meaning.specs.Answer.{storedLimits};
 ghost use Rattle.meaning.specs.Files.{reading, writing};
 ghost use Rattle.stored.specs.Answers.{readOf, writtenOf};
 
@@ -74,7 +74,7 @@ pub fn read(
         (edgeTable (now (left .exit)) (now (right .exit)) (now (parent .exit)) (now (child .exit)))
         (siteTable (now (position .exit)) (now (ancestral .exit)))
         (mutationTable (now (site .exit)) (now (node .exit)) (now (derived .exit)))) (now (samples .exit))
-        ≡ reading 2 limits (now (bytes .entry))
+        ≡ reading 2 storedLimits (now (bytes .entry))
         (tables
         (nodeTable (now (time .entry)) (now (birth .entry)))
         (edgeTable (now (left .entry)) (now (right .entry)) (now (parent .entry)) (now (child .entry)))
@@ -146,7 +146,7 @@ pub fn write(
 ) -> WriteAnswer
     ensures { λ r. ⌜
         writtenOf r (now (bytes .exit))
-        ≡ writing 2 limits len
+        ≡ writing 2 storedLimits len
         (tables
         (nodeTable (now (time .entry)) (now (birth .entry)))
         (edgeTable (now (left .entry)) (now (right .entry)) (now (parent .entry)) (now (child .entry)))

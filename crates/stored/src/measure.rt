@@ -78,11 +78,11 @@ pub fn most() -> Rows
     ensures { λ r. ⌜ r ≡ mostRows ⌝ }
 {
     Rows {
-        nodes: NodeTable::MOST,
-        edges: EdgeTable::MOST,
-        sites: SiteTable::MOST,
-        mutations: MutationTable::MOST,
-        samples: SampleTable::MOST,
+        nodes: NodeTable::STORED,
+        edges: EdgeTable::STORED,
+        sites: SiteTable::STORED,
+        mutations: MutationTable::STORED,
+        samples: SampleTable::STORED,
     }
 }
 

@@ -4,7 +4,7 @@ use mathlib.Core.List.{List}
 use Prim.Native.Nat.{ℕ, _≤_}
 use lib.ListN.{length}
 use Rattle.meaning.specs.Rows.{Tables}
-use Rattle.meaning.specs.Answer.{done, limits}
+use Rattle.meaning.specs.Answer.{done, storedLimits}
 use Rattle.meaning.specs.Lent.{Counts}
 use Rattle.meaning.specs.Files.{reading}
 use Rattle.stored.specs.Answers.{readOf}
@@ -104,8 +104,8 @@ clean-rows-requires c κs =
     let L : ℕ = c .before .before .before .before .before .before .before .before .before .before .before .before .before .before .answer .given .0 .0 in
     let r : Rows = c .before .before .before .before .before .before .before .before .before .before .before .before .before .before .answer .given .0 .1 .0 in
     let n : Counts = record { nodes = r .nodes; edges = r .edges; sites = r .sites; mutations = r .mutations } in
-    let e : record { answer = done; len = L; rows = n; listed = r .samples; cells = cells; samples = samples } ≡ reading 2 limits s blank (zeros (limits .samples)) = ap (λ (a : ReadAnswer). readOf a cells samples) (sym (c .before .before .before .before .before .before .before .before .before .before .before .before .before .before .answer .given .1)) ∙ c .before .before .before .before .before .before .before .before .before .before .before .before .before .before .before .before .before .before .before .before .before .before .before .before .before .before .before .before .read .ensures in
-    let f : Long n cells × (r .samples ≤ length samples) = read-long s blank (zeros (limits .samples)) L n (r .samples) cells samples e in
+    let e : record { answer = done; len = L; rows = n; listed = r .samples; cells = cells; samples = samples } ≡ reading 2 storedLimits s blank (zeros (storedLimits .samples)) = ap (λ (a : ReadAnswer). readOf a cells samples) (sym (c .before .before .before .before .before .before .before .before .before .before .before .before .before .before .answer .given .1)) ∙ c .before .before .before .before .before .before .before .before .before .before .before .before .before .before .before .before .before .before .before .before .before .before .before .before .before .before .before .before .read .ensures in
+    let f : Long n cells × (r .samples ≤ length samples) = read-long s blank (zeros (storedLimits .samples)) L n (r .samples) cells samples e in
     (f .0, f .1, c .before .before .before .before .before .before .before .before .before .before .before .before .before .before .before .before .before .before .before .before .before .before .before .before .before .before .before .before .before .before .before .before .before .before .before .before .before .before .before .before .before .before .before .pre)
 
 enum-known-answer-2 : tie.Need-enum-known-answer-2

@@ -5,7 +5,7 @@ use mathlib.Core.List.{List}
 use Prim.Native.Nat.{ℕ, _<_}
 use lib.ListN.{length}
 use Rattle.meaning.specs.Rows.{Tables}
-use Rattle.meaning.specs.Answer.{limits}
+use Rattle.meaning.specs.Answer.{storedLimits}
 use Rattle.meaning.specs.Files.{tooWide}
 use Rattle.stored.specs.Admitted.{Shaped, Within, Narrow}
 use Rattle.stored.specs.Answers.{Long, Counted, Ample, mostRows}
@@ -97,7 +97,7 @@ returns-3 c =
     let n : Rows = record { nodes = length (c .before .before .before .before .before .before .before .before .before .before .before .before .before .before .before .before .before .before .before .before .before .before .args .time .now); edges = length (c .before .before .before .before .before .before .before .before .before .before .before .before .before .before .before .before .before .before .before .before .before .before .args .left .now); sites = length (c .before .before .before .before .before .before .before .before .before .before .before .before .before .before .before .before .before .before .before .before .before .before .args .position .now); mutations = length (c .before .before .before .before .before .before .before .before .before .before .before .before .before .before .before .before .before .before .before .before .before .before .args .site .now); samples = length (c .before .before .before .before .before .before .before .before .before .before .before .before .before .before .before .before .before .before .before .before .before .before .args .samples .now) } in
     let k : Counted n T S = record { nodes = refl; edges = refl; sites = refl; muts = refl; samples = refl } in
     let a : Ample n mostRows = write-ample (c .before .before .before .before .before .before .before .before .before .before .before .before .before .before .before .before .before .before .before .before .before .before .args .len) T S out n (c .before .before .before .before .before .most .result) (c .before .before .before .before .before .most .ensures) (c .before .before .before .before .lacking .result) (c .before .before .before .before .lacking .ensures) (c .before .before .enum-told2 .given .1) in
-    let w : Within limits T S = all-within n T S k a in
+    let w : Within storedLimits T S = all-within n T S k a in
     write-edge (c .before .before .before .before .before .before .before .before .before .before .before .before .before .before .before .before .before .before .before .before .before .before .args .len) T S out s w (length (T .edges .parent)) (c .before .first-wide .result) (edges-same T s .1) (c .before .first-wide .ensures) (c .if1 .taken)
 
 first-wide-requires-2 : tie.Need-first-wide-requires-2
@@ -123,7 +123,7 @@ returns-4 c =
     let n : Rows = record { nodes = length (c .before .before .before .before .before .before .before .before .before .before .before .before .before .before .before .before .before .before .before .before .before .before .before .before .args .time .now); edges = length (c .before .before .before .before .before .before .before .before .before .before .before .before .before .before .before .before .before .before .before .before .before .before .before .before .args .left .now); sites = length (c .before .before .before .before .before .before .before .before .before .before .before .before .before .before .before .before .before .before .before .before .before .before .before .before .args .position .now); mutations = length (c .before .before .before .before .before .before .before .before .before .before .before .before .before .before .before .before .before .before .before .before .before .before .before .before .args .site .now); samples = length (c .before .before .before .before .before .before .before .before .before .before .before .before .before .before .before .before .before .before .before .before .before .before .before .before .args .samples .now) } in
     let k : Counted n T S = record { nodes = refl; edges = refl; sites = refl; muts = refl; samples = refl } in
     let a : Ample n mostRows = write-ample (c .before .before .before .before .before .before .before .before .before .before .before .before .before .before .before .before .before .before .before .before .before .before .before .before .args .len) T S out n (c .before .before .before .before .before .before .before .most .result) (c .before .before .before .before .before .before .before .most .ensures) (c .before .before .before .before .before .before .lacking .result) (c .before .before .before .before .before .before .lacking .ensures) (c .before .before .before .before .enum-told2 .given .1) in
-    let w : Within limits T S = all-within n T S k a in
+    let w : Within storedLimits T S = all-within n T S k a in
     let en : (i : ℕ) → i < length (T .edges .left) → tooWide 2 (T .edges .parent) (T .edges .child) i ≡ false = edges-narrow (c .before .before .before .before .before .before .before .before .before .before .before .before .before .before .before .before .before .before .before .before .before .before .before .before .args .len) T S out s w (length (T .edges .parent)) (c .before .before .before .first-wide .result) (edges-same T s .1) (c .before .before .before .first-wide .ensures) (c .before .before .if1 .left) in
     write-mutation (c .before .before .before .before .before .before .before .before .before .before .before .before .before .before .before .before .before .before .before .before .before .before .before .before .args .len) T S out s w en (c .before .first-wide2 .result) (c .before .first-wide2 .ensures) (c .if2 .taken)
 
@@ -138,7 +138,7 @@ file-bytes-requires c κs =
     let n : Rows = record { nodes = length (c .before .before .before .before .before .before .before .before .before .before .before .before .before .before .before .before .before .before .before .before .before .before .before .before .args .time .now); edges = length (c .before .before .before .before .before .before .before .before .before .before .before .before .before .before .before .before .before .before .before .before .before .before .before .before .args .left .now); sites = length (c .before .before .before .before .before .before .before .before .before .before .before .before .before .before .before .before .before .before .before .before .before .before .before .before .args .position .now); mutations = length (c .before .before .before .before .before .before .before .before .before .before .before .before .before .before .before .before .before .before .before .before .before .before .before .before .args .site .now); samples = length (c .before .before .before .before .before .before .before .before .before .before .before .before .before .before .before .before .before .before .before .before .before .before .before .before .args .samples .now) } in
     let k : Counted n T S = record { nodes = refl; edges = refl; sites = refl; muts = refl; samples = refl } in
     let a : Ample n mostRows = write-ample (c .before .before .before .before .before .before .before .before .before .before .before .before .before .before .before .before .before .before .before .before .before .before .before .before .args .len) T S out n (c .before .before .before .before .before .before .before .most .result) (c .before .before .before .before .before .before .before .most .ensures) (c .before .before .before .before .before .before .lacking .result) (c .before .before .before .before .before .before .lacking .ensures) (c .before .before .before .before .enum-told2 .given .1) in
-    let w : Within limits T S = all-within n T S k a in
+    let w : Within storedLimits T S = all-within n T S k a in
     a
 
 returns-5 : tie.Need-returns-5
@@ -152,7 +152,7 @@ returns-5 c =
     let n : Rows = record { nodes = length (c .before .before .before .before .before .before .before .before .before .before .before .before .before .before .before .before .before .before .before .before .before .before .before .before .before .before .args .time .now); edges = length (c .before .before .before .before .before .before .before .before .before .before .before .before .before .before .before .before .before .before .before .before .before .before .before .before .before .before .args .left .now); sites = length (c .before .before .before .before .before .before .before .before .before .before .before .before .before .before .before .before .before .before .before .before .before .before .before .before .before .before .args .position .now); mutations = length (c .before .before .before .before .before .before .before .before .before .before .before .before .before .before .before .before .before .before .before .before .before .before .before .before .before .before .args .site .now); samples = length (c .before .before .before .before .before .before .before .before .before .before .before .before .before .before .before .before .before .before .before .before .before .before .before .before .before .before .args .samples .now) } in
     let k : Counted n T S = record { nodes = refl; edges = refl; sites = refl; muts = refl; samples = refl } in
     let a : Ample n mostRows = write-ample (c .before .before .before .before .before .before .before .before .before .before .before .before .before .before .before .before .before .before .before .before .before .before .before .before .before .before .args .len) T S out n (c .before .before .before .before .before .before .before .before .before .most .result) (c .before .before .before .before .before .before .before .before .before .most .ensures) (c .before .before .before .before .before .before .before .before .lacking .result) (c .before .before .before .before .before .before .before .before .lacking .ensures) (c .before .before .before .before .before .before .enum-told2 .given .1) in
-    let w : Within limits T S = all-within n T S k a in
+    let w : Within storedLimits T S = all-within n T S k a in
     let en : (i : ℕ) → i < length (T .edges .left) → tooWide 2 (T .edges .parent) (T .edges .child) i ≡ false = edges-narrow (c .before .before .before .before .before .before .before .before .before .before .before .before .before .before .before .before .before .before .before .before .before .before .before .before .before .before .args .len) T S out s w (length (T .edges .parent)) (c .before .before .before .before .before .first-wide .result) (edges-same T s .1) (c .before .before .before .before .before .first-wide .ensures) (c .before .before .before .before .if1 .left) in
     let nr : Narrow 2 T = record { edges = en; muts = muts-narrow (c .before .before .before .before .before .before .before .before .before .before .before .before .before .before .before .before .before .before .before .before .before .before .before .before .before .before .args .len) T S out s w (c .before .before .before .first-wide2 .result) (c .before .before .before .first-wide2 .ensures) (c .before .before .if2 .left) } in
     write-full (c .before .before .before .before .before .before .before .before .before .before .before .before .before .before .before .before .before .before .before .before .before .before .before .before .before .before .args .len) T S out s w nr (omega (arith, c .if3 .taken, c .before .file-bytes .ensures))
@@ -228,7 +228,7 @@ returns-6 c =
     let n : Rows = record { nodes = length (c .before .before .before .before .before .before .before .before .before .before .before .before .before .before .before .before .before .before .before .before .before .before .before .before .before .before .before .before .before .before .before .before .before .before .before .before .before .before .before .before .before .before .before .before .before .before .before .before .before .before .before .before .before .before .args .time .now); edges = length (c .before .before .before .before .before .before .before .before .before .before .before .before .before .before .before .before .before .before .before .before .before .before .before .before .before .before .before .before .before .before .before .before .before .before .before .before .before .before .before .before .before .before .before .before .before .before .before .before .before .before .before .before .before .before .args .left .now); sites = length (c .before .before .before .before .before .before .before .before .before .before .before .before .before .before .before .before .before .before .before .before .before .before .before .before .before .before .before .before .before .before .before .before .before .before .before .before .before .before .before .before .before .before .before .before .before .before .before .before .before .before .before .before .before .before .args .position .now); mutations = length (c .before .before .before .before .before .before .before .before .before .before .before .before .before .before .before .before .before .before .before .before .before .before .before .before .before .before .before .before .before .before .before .before .before .before .before .before .before .before .before .before .before .before .before .before .before .before .before .before .before .before .before .before .before .before .args .site .now); samples = length (c .before .before .before .before .before .before .before .before .before .before .before .before .before .before .before .before .before .before .before .before .before .before .before .before .before .before .before .before .before .before .before .before .before .before .before .before .before .before .before .before .before .before .before .before .before .before .before .before .before .before .before .before .before .before .args .samples .now) } in
     let k : Counted n T S = record { nodes = refl; edges = refl; sites = refl; muts = refl; samples = refl } in
     let a : Ample n mostRows = write-ample (c .before .before .before .before .before .before .before .before .before .before .before .before .before .before .before .before .before .before .before .before .before .before .before .before .before .before .before .before .before .before .before .before .before .before .before .before .before .before .before .before .before .before .before .before .before .before .before .before .before .before .before .before .before .before .args .len) T S out n (c .before .before .before .before .before .before .before .before .before .before .before .before .before .before .before .before .before .before .before .before .before .before .before .before .before .before .before .before .before .before .before .before .before .before .before .before .before .most .result) (c .before .before .before .before .before .before .before .before .before .before .before .before .before .before .before .before .before .before .before .before .before .before .before .before .before .before .before .before .before .before .before .before .before .before .before .before .before .most .ensures) (c .before .before .before .before .before .before .before .before .before .before .before .before .before .before .before .before .before .before .before .before .before .before .before .before .before .before .before .before .before .before .before .before .before .before .before .before .lacking .result) (c .before .before .before .before .before .before .before .before .before .before .before .before .before .before .before .before .before .before .before .before .before .before .before .before .before .before .before .before .before .before .before .before .before .before .before .before .lacking .ensures) (c .before .before .before .before .before .before .before .before .before .before .before .before .before .before .before .before .before .before .before .before .before .before .before .before .before .before .before .before .before .before .before .before .before .before .enum-told2 .given .1) in
-    let w : Within limits T S = all-within n T S k a in
+    let w : Within storedLimits T S = all-within n T S k a in
     let en : (i : ℕ) → i < length (T .edges .left) → tooWide 2 (T .edges .parent) (T .edges .child) i ≡ false = edges-narrow (c .before .before .before .before .before .before .before .before .before .before .before .before .before .before .before .before .before .before .before .before .before .before .before .before .before .before .before .before .before .before .before .before .before .before .before .before .before .before .before .before .before .before .before .before .before .before .before .before .before .before .before .before .before .before .args .len) T S out s w (length (T .edges .parent)) (c .before .before .before .before .before .before .before .before .before .before .before .before .before .before .before .before .before .before .before .before .before .before .before .before .before .before .before .before .before .before .before .before .before .first-wide .result) (edges-same T s .1) (c .before .before .before .before .before .before .before .before .before .before .before .before .before .before .before .before .before .before .before .before .before .before .before .before .before .before .before .before .before .before .before .before .before .first-wide .ensures) (c .before .before .before .before .before .before .before .before .before .before .before .before .before .before .before .before .before .before .before .before .before .before .before .before .before .before .before .before .before .before .before .before .if1 .left) in
     let nr : Narrow 2 T = record { edges = en; muts = muts-narrow (c .before .before .before .before .before .before .before .before .before .before .before .before .before .before .before .before .before .before .before .before .before .before .before .before .before .before .before .before .before .before .before .before .before .before .before .before .before .before .before .before .before .before .before .before .before .before .before .before .before .before .before .before .before .before .args .len) T S out s w (c .before .before .before .before .before .before .before .before .before .before .before .before .before .before .before .before .before .before .before .before .before .before .before .before .before .before .before .before .before .before .before .first-wide2 .result) (c .before .before .before .before .before .before .before .before .before .before .before .before .before .before .before .before .before .before .before .before .before .before .before .before .before .before .before .before .before .before .before .first-wide2 .ensures) (c .before .before .before .before .before .before .before .before .before .before .before .before .before .before .before .before .before .before .before .before .before .before .before .before .before .before .before .before .before .before .if2 .left) } in
     write-done (c .before .before .before .before .before .before .before .before .before .before .before .before .before .before .before .before .before .before .before .before .before .before .before .before .before .before .before .before .before .before .before .before .before .before .before .before .before .before .before .before .before .before .before .before .before .before .before .before .before .before .before .before .before .before .args .len) T S out s w nr (c .before .before .before .before .before .before .before .before .before .before .before .before .before .before .before .before .before .before .before .before .before .before .before .before .before .before .before .before .before .file-bytes .result) (c .before .before .before .before .before .before .before .before .before .before .before .before .before .before .before .before .before .before .before .before .before .before .before .before .before .before .before .before .before .file-bytes .ensures) (c .before .before .before .before .before .before .before .before .before .before .before .before .before .before .before .before .before .before .before .before .before .before .before .before .before .before .before .before .if3 .left) (record { head = c .before .before .before .before .before .before .before .before .before .before .before .before .before .before .before .before .before .before .before .before .before .before .before .before .before .before .head .ensures; samples = c .before .before .before .before .before .before .before .before .before .before .before .before .before .before .before .before .before .before .before .before .before .before .samples .ensures; nodes = c .before .before .before .before .before .before .before .before .before .before .before .before .before .before .before .before .before .before .nodes .ensures; edges = c .before .before .before .before .before .before .before .before .before .before .before .before .before .before .edges .ensures; sites = c .before .before .before .before .before .before .before .before .before .before .sites .ensures; muts = c .before .before .before .before .before .before .mutations .ensures; end = c .before .before .mark .ensures })

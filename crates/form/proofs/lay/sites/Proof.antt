@@ -3,7 +3,7 @@ use mathlib.Core.Path.{refl}
 use mathlib.Core.List.{List, [], _∷_}
 use Prim.Native.Nat.{ℕ, _-_}
 use lib.ListN.{length}
-use Rattle.meaning.specs.Answer.{limits}
+use Rattle.meaning.specs.Answer.{storedLimits}
 use Rattle.meaning.specs.Stored.{SA, ND, ED, SI, MU, size, total, recordAt, fieldsAt}
 use Rattle.form.proofs.Laying.{Laid, laid-start, laid-room, laid-more, laid-end}
 use native.Mathlib.Omega.{arith}
@@ -15,13 +15,13 @@ use Rattle.form.proofs.lay.sites.Lts as lts
 use Rattle.form.proofs.lay.site_row.Reads as site-row-reads
 
 abbrev Inv-loop : tie.InvT-loop
-Inv-loop position ancestral start out₀ at₀ i₀ out at i = Laid (SI limits) (position ∷ ancestral ∷ []) start 7 (length position) out₀ out at i
+Inv-loop position ancestral start out₀ at₀ i₀ out at i = Laid (SI storedLimits) (position ∷ ancestral ∷ []) start 7 (length position) out₀ out at i
 
 abbrev μ-loop : tie.MeasureT-loop
 μ-loop position ancestral start out₀ at₀ i₀ out at i = length position - i
 
 loop-holds : tie.Need-loop-holds Inv-loop μ-loop
-loop-holds c = laid-start (SI limits) (c .before .before .before .args .position .now ∷ c .before .before .before .args .ancestral .now ∷ []) (c .before .before .before .args .start) 7 (length (c .before .before .before .args .position .now)) (c .before .before .before .args .out .now)
+loop-holds c = laid-start (SI storedLimits) (c .before .before .before .args .position .now ∷ c .before .before .before .args .ancestral .now ∷ []) (c .before .before .before .args .start) 7 (length (c .before .before .before .args .position .now)) (c .before .before .before .args .out .now)
 
 mul-site-row : tie.Need-mul-site-row Inv-loop μ-loop
 mul-site-row c = search needs
@@ -33,10 +33,10 @@ shared-slice-read-site-row-2 : tie.Need-shared-slice-read-site-row-2 Inv-loop μ
 shared-slice-read-site-row-2 c = search needs
 
 site-row-requires : tie.Need-site-row-requires Inv-loop μ-loop
-site-row-requires c κs = omega (arith, laid-room (SI limits) (c .before .before .before .before .before .before .before .before .args .position .now ∷ c .before .before .before .before .before .before .before .before .args .ancestral .now ∷ []) (c .before .before .before .before .before .before .before .before .args .start) 7 (length (c .before .before .before .before .before .before .before .before .args .position .now)) (c .before .before .before .before .before .before .before .before .args .out .now) (c .before .before .before .before .loop .out) (c .before .before .before .before .loop .at) (c .before .before .before .before .loop .i) (c .before .before .before .before .loop .inv) (c .before .before .before .before .before .before .before .before .pre .0) (c .before .before .before .loop-test .taken), c .before .before .before .before .loop .inv .same)
+site-row-requires c κs = omega (arith, laid-room (SI storedLimits) (c .before .before .before .before .before .before .before .before .args .position .now ∷ c .before .before .before .before .before .before .before .before .args .ancestral .now ∷ []) (c .before .before .before .before .before .before .before .before .args .start) 7 (length (c .before .before .before .before .before .before .before .before .args .position .now)) (c .before .before .before .before .before .before .before .before .args .out .now) (c .before .before .before .before .loop .out) (c .before .before .before .before .loop .at) (c .before .before .before .before .loop .i) (c .before .before .before .before .loop .inv) (c .before .before .before .before .before .before .before .before .pre .0) (c .before .before .before .loop-test .taken), c .before .before .before .before .loop .inv .same)
 
 add-at : tie.Need-add-at Inv-loop μ-loop
-add-at c = omega (arith, laid-room (SI limits) (c .before .before .before .before .before .before .before .before .before .before .before .args .position .now ∷ c .before .before .before .before .before .before .before .before .before .before .before .args .ancestral .now ∷ []) (c .before .before .before .before .before .before .before .before .before .before .before .args .start) 7 (length (c .before .before .before .before .before .before .before .before .before .before .before .args .position .now)) (c .before .before .before .before .before .before .before .before .before .before .before .args .out .now) (c .before .before .before .before .before .before .before .loop .out) (c .before .before .before .before .before .before .before .loop .at) (c .before .before .before .before .before .before .before .loop .i) (c .before .before .before .before .before .before .before .loop .inv) (c .before .before .before .before .before .before .before .before .before .before .before .pre .0) (c .before .before .before .before .before .before .loop-test .taken))
+add-at c = omega (arith, laid-room (SI storedLimits) (c .before .before .before .before .before .before .before .before .before .before .before .args .position .now ∷ c .before .before .before .before .before .before .before .before .before .before .before .args .ancestral .now ∷ []) (c .before .before .before .before .before .before .before .before .before .before .before .args .start) 7 (length (c .before .before .before .before .before .before .before .before .before .before .before .args .position .now)) (c .before .before .before .before .before .before .before .before .before .before .before .args .out .now) (c .before .before .before .before .before .before .before .loop .out) (c .before .before .before .before .before .before .before .loop .at) (c .before .before .before .before .before .before .before .loop .i) (c .before .before .before .before .before .before .before .loop .inv) (c .before .before .before .before .before .before .before .before .before .before .before .pre .0) (c .before .before .before .before .before .before .loop-test .taken))
 
 add-i : tie.Need-add-i Inv-loop μ-loop
 add-i c = search needs
@@ -46,13 +46,13 @@ loop-less c = search needs
 
 loop-again : tie.Need-loop-again Inv-loop μ-loop
 unfolding size total recordAt fieldsAt
-loop-again c = laid-more (SI limits) (c .before .before .before .before .before .before .before .before .before .before .before .args .position .now ∷ c .before .before .before .before .before .before .before .before .before .before .before .args .ancestral .now ∷ []) (c .before .before .before .before .before .before .before .before .before .before .before .args .start) 7 (length (c .before .before .before .before .before .before .before .before .before .before .before .args .position .now)) (c .before .before .before .before .before .before .before .before .before .before .before .args .out .now) (c .before .before .before .before .before .before .before .loop .out) (c .before .before .before .before .before .before .before .loop .at) (c .before .before .before .before .before .before .before .loop .i) _ refl refl (c .before .before .before .before .before .before .before .before .before .before .before .pre .0) (c .before .before .before .before .before .before .before .loop .inv) (c .before .before .before .before .before .before .loop-test .taken) (c .before .before .site-row .ensures)
+loop-again c = laid-more (SI storedLimits) (c .before .before .before .before .before .before .before .before .before .before .before .args .position .now ∷ c .before .before .before .before .before .before .before .before .before .before .before .args .ancestral .now ∷ []) (c .before .before .before .before .before .before .before .before .before .before .before .args .start) 7 (length (c .before .before .before .before .before .before .before .before .before .before .before .args .position .now)) (c .before .before .before .before .before .before .before .before .before .before .before .args .out .now) (c .before .before .before .before .before .before .before .loop .out) (c .before .before .before .before .before .before .before .loop .at) (c .before .before .before .before .before .before .before .loop .i) _ refl refl (c .before .before .before .before .before .before .before .before .before .before .before .pre .0) (c .before .before .before .before .before .before .before .loop .inv) (c .before .before .before .before .before .before .loop-test .taken) (c .before .before .site-row .ensures)
 
 same-length : tie.Need-same-length Inv-loop μ-loop
 same-length c = c .before .loop .inv .same
 
 returns : tie.Need-returns Inv-loop μ-loop
-returns c = laid-end (SI limits) (c .before .before .before .before .before .args .position .now ∷ c .before .before .before .before .before .args .ancestral .now ∷ []) (c .before .before .before .before .before .args .start) 7 (length (c .before .before .before .before .before .args .position .now)) (c .before .before .before .before .before .args .out .now) (c .before .loop .out) (c .before .loop .at) (c .before .loop .i) (c .before .loop .inv) (c .loop-test .left)
+returns c = laid-end (SI storedLimits) (c .before .before .before .before .before .args .position .now ∷ c .before .before .before .before .before .args .ancestral .now ∷ []) (c .before .before .before .before .before .args .start) 7 (length (c .before .before .before .before .before .args .position .now)) (c .before .before .before .before .before .args .out .now) (c .before .loop .out) (c .before .loop .at) (c .before .loop .i) (c .before .loop .inv) (c .loop-test .left)
 
 pub sites-spec : {M : Type 1} → statement M
 sites-spec =
