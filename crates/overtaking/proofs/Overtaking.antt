@@ -14,7 +14,8 @@ use Rattle.meaning.specs.Forest.{ancestor}
 use Rattle.laws.specs.Bools.{clash, eq?, and-of, or-no, or-right, not-of, not-no, not-true}
 use Rattle.laws.specs.Counting.{below-hit, below-miss, below-of, below-none, of-below, lowest-none}
 use Rattle.bridge.specs.Parents.{parentRow}
-use Rattle.overtaking.specs.Overtaken.{over, overtaken, overtakenRow, endsSite, somePair, Lined}
+use Rattle.overtaking.specs.Sites.{endsSite, somePair, EndFrom}
+use Rattle.overtaking.specs.Overtaken.{over, overtaken, overtakenRow, Lined}
 
 -- ---- where a site ends
 
@@ -36,7 +37,7 @@ module _ (site : List ℕ) where
       let r : _ = or-no (leb (length site) (suc i)) (not (eqb (at site i) (at site (suc i)))) h in
       (leb-false (length site) (suc i) (r .0), eqb-true (at site i) (at site (suc i)) (not-no (eqb (at site i) (at site (suc i))) (r .1)))
 
-  ends-of : (i : ℕ) → endsSite site i ≡ true → suc i < length site → at site i ≡ at site (suc i) → ⊥
+  pub ends-of : (i : ℕ) → endsSite site i ≡ true → suc i < length site → at site i ≡ at site (suc i) → ⊥
   unfolding endsSite
   ends-of i h l = eqb-false (at site i) (at site (suc i)) (not-of (eqb (at site i) (at site (suc i))) (rw (lt-leb (length site) (suc i) l) at h))
 
@@ -72,6 +73,10 @@ module _ (site : List ℕ) where
     -- after a row that ends its site, all rows before have lower sites
     pub lower-before : (i : ℕ) → endsSite site i ≡ true → suc i < length site → (j : ℕ) → j < suc i → at site j < at site (suc i)
     lower-before i h l j k = omega (arith, ends-of i h l, not-falling j i (omega arith) (omega arith), ok .rise i l)
+
+    -- and all rows after it higher ones
+    pub past-end : (i r : ℕ) → EndFrom site i r → (j : ℕ) → r < j → j < length site → at site i < at site j
+    past-end i r e j h l = omega (arith, lower-before r (e .ends) (omega arith) i (omega (arith, e .after)), not-falling (suc r) j (omega arith) l)
 
 -- ---- the rows above the mutations gone over
 

@@ -4,12 +4,12 @@ use mathlib.Core.Bool.{false, not}
 use Prim.Native.Nat.{_-_, _≤_}
 use lib.ListN.{length}
 use Rattle.meaning.specs.Words.{anyBelow}
-use Rattle.overtaking.specs.Overtaken.{endsSite}
+use Rattle.overtaking.specs.Sites.{endsSite}
 use Rattle.overtaking.proofs.Overtaking.{pair-found, pair-start, pair-miss, pair-none}
 use native.Mathlib.Omega.{arith}
 use borrow.Author.Needs.{needs}
-use Rattle.overtaking.proofs.stamps.some_pair.Statement.{statement}
-use Rattle.overtaking.proofs.stamps.some_pair.Tie as tie
+use Rattle.overtaking.proofs.sites.some_pair.Statement.{statement}
+use Rattle.overtaking.proofs.sites.some_pair.Tie as tie
 
 abbrev Inv-loop : tie.InvT-loop
 Inv-loop site i₀ i = (i ≤ length site) × (anyBelow (λ j. not (endsSite site j)) i ≡ false)
