@@ -4,4 +4,5 @@ pub mod Stamping
 pub mod Overtaking
 pub mod Bounding
 pub mod Ready
+pub mod OlderFirst
 pub mod Least

@@ -111,6 +111,13 @@ module _ (t : ℕ) (stamps : List ℕ) (p : ℕ) (h : p < length stamps) where
 edges-aged : {time : List ℕ} {E : EdgeColumns} → Rising time E → (x : ℕ) → ((i : ℕ) → at time i < Ages) → Aged (parentRow E x) (at time)
 edges-aged {time} {E} up x young = record { grows = λ {b} {p} e. parent-rises time E up x b p e .2; bound = λ {b} {p} e. young p }
 
+-- an ancestor is older
+pub ancestor-older : {time : List ℕ} {E : EdgeColumns} → Rising time E → (x : ℕ) → ((i : ℕ) → at time i < Ages) → (v u : ℕ) → ancestor (parentRow E x) v u ≡ true → at time u < at time v
+ancestor-older {time} {E} up x young v u h =
+    let ok : Aged (parentRow E x) (at time) = edges-aged up x young in
+    let r : _ = ancestor-of (parentRow E x) v u h in
+    omega (arith, ok .grows (r .1), not-younger (parentRow E x) (at time) ok (r .2))
+
 -- from u0 it has come to u
 pub record Climbing (time : List ℕ) (E : EdgeColumns) (x t b : ℕ) (stamps₀ : List ℕ) (u0 : ℕ) (stamps : List ℕ) (u : ℕ) : Type 0 where
   pub long : length stamps ≡ length stamps₀

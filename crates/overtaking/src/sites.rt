@@ -1,8 +1,9 @@
-// Where a site's mutation rows end.
+// Where a site's mutation rows end, and whether they stand older first.
 ghost use mathlib.Core.Path.{_≡_};
-ghost use Prim.Native.Nat.{_<_};
+ghost use Prim.Native.Nat.{ℕ, _<_};
 ghost use lib.ListN.{length};
-ghost use Rattle.overtaking.specs.Sites.{endsSite, somePair, EndFrom};
+ghost use Rattle.overtaking.specs.Sites.{endsSite, youngerFirst, someYoungerFirst, EndFrom};
+ghost use Rattle.overtaking.specs.Overtaken.{Lined};
 
 // Whether mutation row i is the last of its site.
 pub fn ends_site(site: &[u32], i: usize) -> bool
@@ -27,13 +28,25 @@ pub fn last_from(site: &[u32], i: usize) -> usize
     k
 }
 
-// Whether some site has two mutations.
-pub fn some_pair(site: &[u32]) -> bool
-    ensures { λ r. ⌜ r ≡ somePair (now (site .entry)) ⌝ }
+// Whether the node of mutation row i is younger than that of the next row of its site.
+fn younger_first(time: &[u32], site: &[u32], node: &[u32], i: usize) -> bool
+    requires { ⌜ ((sites : ℕ) × Lined sites (length (now time)) (now site) (now node)) × (i < length (now site)) ⌝ }
+    ensures { λ r. ⌜ r ≡ youngerFirst (now (time .entry)) (now (site .entry)) (now (node .entry)) i ⌝ }
+{
+    if ends_site(site, i) {
+        return false;
+    }
+    time[node[i] as usize] < time[node[i + 1] as usize]
+}
+
+// Whether some site's mutations do not stand older first.
+pub fn some_younger_first(time: &[u32], site: &[u32], node: &[u32]) -> bool
+    requires { ⌜ ((sites : ℕ) × Lined sites (length (now time)) (now site) (now node)) ⌝ }
+    ensures { λ r. ⌜ r ≡ someYoungerFirst (now (time .entry)) (now (site .entry)) (now (node .entry)) ⌝ }
 {
     let mut i = 0;
     while i < site.len() {
-        if !ends_site(site, i) {
+        if younger_first(time, site, node, i) {
             return true;
         }
         i += 1;

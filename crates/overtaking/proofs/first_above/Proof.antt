@@ -2,18 +2,18 @@
 use mathlib.Core.Path.{refl, sym, _∙_}
 use Rattle.laws.specs.Bools.{not-of}
 use Rattle.overtaking.specs.Overtaken.{lowest-10}
-use Rattle.overtaking.proofs.Overtaking.{none-overtaken}
+use Rattle.overtaking.proofs.OlderFirst.{none-overtaken}
 use Rattle.overtaking.proofs.Ready.{zeros}
 use native.Mathlib.Omega.{arith}
 use borrow.Author.Needs.{needs}
 use Rattle.overtaking.proofs.first_above.Statement.{statement}
 use Rattle.overtaking.proofs.first_above.Tie as tie
 
-some-pair-requires : tie.Need-some-pair-requires
-some-pair-requires c κs = search needs
+some-younger-first-requires : tie.Need-some-younger-first-requires
+some-younger-first-requires c κs = (_, c .before .before .before .before .before .before .before .before .before .before .pre .7)
 
 returns : tie.Need-returns
-returns c = none-overtaken _ _ _ _ _ _ (c .before .before .before .before .before .before .before .before .before .before .before .before .pre .7) (sym (c .before .some-pair .ensures) ∙ not-of _ (c .if1 .taken)) ∙ lowest-10 _ _ _ _
+returns c = none-overtaken _ (c .before .before .before .before .before .before .before .before .before .before .before .before .pre .7) (sym (c .before .some-younger-first .ensures) ∙ not-of _ (c .if1 .taken)) _ (c .before .before .before .before .before .before .before .before .before .before .before .before .pre .3) (λ i. omega (arith, c .before .before .before .before .before .before .before .before .before .before .before .shared-slice-known .given i)) ∙ lowest-10 _ _ _ _
 
 slice-aggregate-fill-ends : tie.Need-slice-aggregate-fill-ends
 slice-aggregate-fill-ends c = search needs
@@ -58,7 +58,7 @@ pub first-above-spec : {M : Type 1} → statement M
 first-above-spec =
     tie.close
     (tie.spec
-    some-pair-requires
+    some-younger-first-requires
     returns
     slice-aggregate-fill-ends
     fill-ends-requires
