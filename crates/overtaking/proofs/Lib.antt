@@ -2,5 +2,7 @@
 pub mod Knowing
 pub mod Stamping
 pub mod Overtaking
+pub mod Bounding
 pub mod Ready
+pub mod OlderFirst
 pub mod Least

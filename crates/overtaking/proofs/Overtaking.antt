@@ -8,13 +8,14 @@ use native.Mathlib.Omega.{arith}
 use lib.Dec.{eqb, leb}
 use lib.ListN.{length}
 use borrow.Author.Tests.{eq-eqb, eqb-true, eqb-false, le-leb, lt-leb, leb-false}
-use Rattle.meaning.specs.Words.{and, or, at, anyBelow, lowest}
+use Rattle.meaning.specs.Words.{and, or, at, anyBelow}
 use Rattle.meaning.specs.Rows.{EdgeColumns}
 use Rattle.meaning.specs.Forest.{ancestor}
-use Rattle.laws.specs.Bools.{clash, eq?, and-of, or-no, or-right, not-of, not-no, not-true}
-use Rattle.laws.specs.Counting.{below-hit, below-miss, below-of, below-none, of-below, lowest-none}
+use Rattle.laws.specs.Bools.{eq?, and-of, or-no, or-right, not-of, not-no, not-true}
+use Rattle.laws.specs.Counting.{below-hit, below-miss, below-of}
 use Rattle.bridge.specs.Parents.{parentRow}
-use Rattle.overtaking.specs.Overtaken.{over, overtaken, overtakenRow, endsSite, somePair, Lined}
+use Rattle.overtaking.specs.Sites.{endsSite, EndFrom}
+use Rattle.overtaking.specs.Overtaken.{over, Lined}
 
 -- ---- where a site ends
 
@@ -36,33 +37,17 @@ module _ (site : List ℕ) where
       let r : _ = or-no (leb (length site) (suc i)) (not (eqb (at site i) (at site (suc i)))) h in
       (leb-false (length site) (suc i) (r .0), eqb-true (at site i) (at site (suc i)) (not-no (eqb (at site i) (at site (suc i))) (r .1)))
 
-  ends-of : (i : ℕ) → endsSite site i ≡ true → suc i < length site → at site i ≡ at site (suc i) → ⊥
+  -- a row that has the site of the next row does not end its site
+  pub stays-in : (i : ℕ) → suc i < length site → at site i ≡ at site (suc i) → endsSite site i ≡ false
+  unfolding endsSite
+  stays-in i l e = rw (lt-leb (length site) (suc i) l) (rw (eq-eqb (at site i) (at site (suc i)) e))
+
+  pub ends-of : (i : ℕ) → endsSite site i ≡ true → suc i < length site → at site i ≡ at site (suc i) → ⊥
   unfolding endsSite
   ends-of i h l = eqb-false (at site i) (at site (suc i)) (not-of (eqb (at site i) (at site (suc i))) (rw (lt-leb (length site) (suc i) l) at h))
 
-  -- ---- some site has two mutations
-
-  pub pair-found : (i : ℕ) → i < length site → not (endsSite site i) ≡ true → true ≡ somePair site
-  unfolding somePair
-  pair-found i l h = sym (of-below (λ j. not (endsSite site j)) (length site) i l h)
-
-  -- none among the rows gone over
-  pub pair-start : anyBelow (λ j. not (endsSite site j)) 0 ≡ false
-  pair-start = below-none (λ j. not (endsSite site j))
-
-  pub pair-miss : (i : ℕ) → not (endsSite site i) ≡ false → anyBelow (λ j. not (endsSite site j)) i ≡ false → anyBelow (λ j. not (endsSite site j)) (i + 1) ≡ false
-  pair-miss i h e = let q : i + 1 ≡ suc i = omega arith in ap (anyBelow (λ j. not (endsSite site j))) q ∙ below-miss (λ j. not (endsSite site j)) i h ∙ e
-
-  pub pair-none : (i : ℕ) → i ≤ length site → length site ≤ i → anyBelow (λ j. not (endsSite site j)) i ≡ false → false ≡ somePair site
-  unfolding somePair
-  pair-none i a b e = let q : i ≡ length site = omega arith in sym e ∙ ap (anyBelow (λ j. not (endsSite site j))) q
-
-  all-end : somePair site ≡ false → (i : ℕ) → i < length site → endsSite site i ≡ true
-  unfolding somePair
-  all-end h i l = not-no (endsSite site i) (not-true (not (endsSite site i)) (λ e. clash (of-below (λ j. not (endsSite site j)) (length site) i l e) h))
-
   module _ (sites nodes : ℕ) (node : List ℕ) (ok : Lined sites nodes site node) where
-    not-falling : (j i : ℕ) → j ≤ i → i < length site → at site j ≤ at site i
+    pub not-falling : (j i : ℕ) → j ≤ i → i < length site → at site j ≤ at site i
     not-falling j zero h l = let q : j ≡ 0 = omega arith in omega (arith, ap (at site) q)
     not-falling j (suc i) h l = ⊎-elim
         (λ (q : j ≡ suc i). omega (arith, ap (at site) q))
@@ -72,6 +57,10 @@ module _ (site : List ℕ) where
     -- after a row that ends its site, all rows before have lower sites
     pub lower-before : (i : ℕ) → endsSite site i ≡ true → suc i < length site → (j : ℕ) → j < suc i → at site j < at site (suc i)
     lower-before i h l j k = omega (arith, ends-of i h l, not-falling j i (omega arith) (omega arith), ok .rise i l)
+
+    -- and all rows after it higher ones
+    pub past-end : (i r : ℕ) → EndFrom site i r → (j : ℕ) → r < j → j < length site → at site i < at site j
+    past-end i r e j h l = omega (arith, lower-before r (e .ends) (omega arith) i (omega (arith, e .after)), not-falling (suc r) j (omega arith) l)
 
 -- ---- the rows above the mutations gone over
 
@@ -103,18 +92,3 @@ module _ (E : EdgeColumns) (position site node : List ℕ) where
     where
       f : ℕ → Bool
       f j = and (eqb (at site j) s) (ancestor (parentRow E (at position s)) v (at node j))
-
-  -- without two mutations at a site no row is above another
-  module _ (sites nodes : ℕ) (ok : Lined sites nodes site node) (h : somePair site ≡ false) where
-    free : (i : ℕ) → i < length site → overtaken E position site node i ≡ false
-    unfolding overtaken
-    free zero l = over-none (at site 0) 0 (at node 0) (λ j k. absurd (omega arith))
-    free (suc i) l = over-none (at site (suc i)) (suc i) (at node (suc i)) (lower-before site sites nodes node ok i (all-end site h i (omega arith)) l)
-
-    pub none-overtaken : length site ≡ lowest (overtaken E position site node) (length site)
-    none-overtaken = sym (lowest-none (overtaken E position site node) (length site) free)
-
-    -- and so is no row that stands beside one
-    pub no-row-overtaken : (row : List ℕ) → length site ≡ lowest (overtakenRow E position site node row) (length site)
-    unfolding overtakenRow
-    no-row-overtaken row = sym (lowest-none (overtakenRow E position site node row) (length site) (λ k l. not-true _ (λ g. let r : _ = below-of (λ i. and (eqb (at row i) k) (overtaken E position site node i)) (length site) g in clash (and-of (eqb (at row (r .0)) k) (overtaken E position site node (r .0)) (r .2) .1) (free (r .0) (r .1)))))

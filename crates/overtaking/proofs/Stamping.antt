@@ -1,6 +1,6 @@
 -- Stamping upwards, one step: where it stops, the stamps are as they should be, and where it goes on, what is asked next holds.
-use mathlib.Core.Path.{_≡_, refl, sym, ap, ap₂, fun-ext, _∙_}
-use mathlib.Core.Bool.{Bool, true, false}
+use mathlib.Core.Path.{_≡_, refl, sym, ap, _∙_}
+use mathlib.Core.Bool.{true}
 use mathlib.Core.List.{List}
 use mathlib.Core.Option.{Option, none, some}
 use mathlib.Core.Logic.{_⊎_, inl, inr, ⊎-elim}
@@ -8,51 +8,62 @@ use Prim.Native.Nat.{ℕ, _<_, _≤_}
 use native.Mathlib.Omega.{arith}
 use lib.Dec.{eqb}
 use lib.ListN.{length, set, length-set}
-use lib.Seq.{ext-getD, getD-set-same, getD-set-other}
-use borrow.Author.Tests.{eq-eqb, ne-eqb, eqb-true}
-use Rattle.meaning.specs.Words.{or, at, rows}
+use lib.Seq.{getD-set-same, getD-set-other}
+use borrow.Author.Tests.{eq-eqb, eqb-true}
+use Rattle.meaning.specs.Words.{at}
 use Rattle.meaning.specs.Rows.{EdgeColumns}
 use Rattle.meaning.specs.Forest.{Par, Ages, ancestor}
-use Rattle.laws.specs.Bools.{clash, eq?, some-inj, none-some, or-left}
-use Rattle.laws.specs.Counting.{length-rows, get-rows}
+use Rattle.laws.specs.Bools.{clash, eq?, some-inj, or-of, or-right}
 use Rattle.bridge.specs.Parents.{no-row, code, parentRow}
 use Rattle.ancestry.specs.Column.{older, Rising}
 use Rattle.ancestry.specs.Rises.{parent-rises}
 use Rattle.ancestry.specs.Older.{older-falls}
-use Rattle.ancestry.specs.Ancestors.{Above, here, step, Aged, ancestor-of, ancestor-none, ancestor-step}
-use Rattle.overtaking.specs.Stamps.{stamped, stampIf, StampedBut, StampedAbove, Stampable, StampedUp}
+use Rattle.ancestry.specs.Ancestors.{Above, here, step, Aged, ancestor-of, ancestor-none, of-ancestor, ancestor-step}
+use Rattle.overtaking.specs.Stamps.{stamped, StampedBut, Stampable, StampedUp}
 
--- where no row is new, the stamps stay
-stay : (P : Par) (t u : ℕ) (stamps : List ℕ) → ((v : ℕ) → ancestor P v u ≡ true → stamped t stamps v ≡ true) → stamps ≡ rows (λ v. stampIf t (ancestor P v u) (at stamps v)) (length stamps)
-unfolding stampIf stamped
-stay P t u stamps h =
-    let f : ℕ → ℕ = λ v. stampIf t (ancestor P v u) (at stamps v) in
-    ext-getD 0 stamps (rows f (length stamps)) (sym (length-rows f (length stamps)))
-    (λ v l. same v (ancestor P v u) refl ∙ sym (get-rows f 0 (length stamps) v l))
-  where
-    same : (v : ℕ) (b : Bool) → ancestor P v u ≡ b → at stamps v ≡ stampIf t (ancestor P v u) (at stamps v)
-    same v true e = eqb-true (at stamps v) t (h v e) ∙ ap (λ b. stampIf t b (at stamps v)) (sym e)
-    same v false e = ap (λ b. stampIf t b (at stamps v)) (sym e)
+-- a stamp that is put or was there stays
+pub still-stamped : {A : Type 0} (t v : ℕ) (before after : List ℕ) → (at after v ≡ at before v) ⊎ ((at after v ≡ t) × A) → stamped t before v ≡ true → stamped t after v ≡ true
+unfolding stamped
+still-stamped t v before after (inl e) m = ap (λ c. eqb c t) e ∙ m
+still-stamped t v before after (inr e) m = eq-eqb (at after v) t (e .0)
 
--- u has no parent
-pub stamp-none : (P : Par) (t u : ℕ) (stamps : List ℕ) → StampedBut P t u stamps → P u ≡ none → StampedUp P t u stamps stamps
-stamp-none P t u stamps k e = record {
-  cells = stay P t u stamps (λ v h. absurd (clash h (ancestor-none P v u e)));
-  closed = record { parent = λ v p f m. ⊎-elim (λ (q : v ≡ u). absurd (none-some e (rw q at f))) (λ (q : v ≡ u → ⊥). k .parent v p q f m) (eq? v u) };
-}
+module _ (P : Par) (age : ℕ → ℕ) (ok : Aged P age) where
+  -- what is above is older, or the same
+  not-younger : {v p : ℕ} → Above P v p → age p ≤ age v
+  not-younger here = omega arith
+  not-younger (step e x) = omega (arith, ok .grows e, not-younger x)
 
-module _ (P : Par) (age : ℕ → ℕ) (ok : Aged P age) (t u p : ℕ) (e : P u ≡ some p) where
-  -- above a stamped row that is older than u all is stamped
-  line-stamped : (stamps : List ℕ) → StampedBut P t u stamps → {v b : ℕ} → Above P v b → age u < age b → stamped t stamps b ≡ true → stamped t stamps v ≡ true
-  line-stamped stamps k here l m = m
-  line-stamped stamps k (step {b} {p = q} f x) l m = line-stamped stamps k x (omega (arith, ok .grows f)) (k .parent b q (λ z. absurd (let y : age b ≡ age u = ap age z in omega arith)) f m)
+  module _ (t b u : ℕ) (stamps : List ℕ) where
+    -- no row is new: the ancestors that matter are stamped already
+    stay : ((m : ℕ) → m ≤ b → StampedBut P age t m u stamps → (v : ℕ) → ancestor P v u ≡ true → age v ≤ m → stamped t stamps v ≡ true) → StampedUp P age t b u stamps stamps
+    stay h = record {
+      cell = λ v. inl refl;
+      line = h;
+      closed = λ m l k. record {
+        parent = λ v p f y s. ⊎-elim
+            (λ (q : v ≡ u). h m l k p (of-ancestor P age ok p u p (rw q at f) here) y)
+            (λ (q : v ≡ u → ⊥). k .parent v p q f y s)
+            (eq? v u);
+      };
+    }
 
-  -- u's parent is stamped already
-  pub stamp-stop : (stamps : List ℕ) → StampedBut P t u stamps → stamped t stamps p ≡ true → StampedUp P t u stamps stamps
-  stamp-stop stamps k m = record {
-    cells = stay P t u stamps (λ v h. let r : _ = ancestor-of P v u h in line-stamped stamps k (rw (some-inj (r .1) e) at (r .2)) (ok .grows e) m);
-    closed = record { parent = λ v q f n. ⊎-elim (λ (z : v ≡ u). rw (some-inj (rw z at f) e) m) (λ (z : v ≡ u → ⊥). k .parent v q z f n) (eq? v u) };
-  }
+    -- u has no parent
+    pub stamp-none : P u ≡ none → StampedUp P age t b u stamps stamps
+    stamp-none e = stay (λ m l k v h. absurd (clash h (ancestor-none P v u e)))
+
+    -- u is as old as the bound: its ancestors are older
+    pub stamp-reached : b ≤ age u → StampedUp P age t b u stamps stamps
+    stamp-reached l = stay (λ m n k v h y. let r : _ = ancestor-of P v u h in absurd (omega (arith, ok .grows (r .1), not-younger (r .2))))
+
+  module _ (t u p : ℕ) (e : P u ≡ some p) where
+    -- above a stamped row that is older than u all is stamped up to the age m
+    line-stamped : (m : ℕ) (stamps : List ℕ) → StampedBut P age t m u stamps → {v c : ℕ} → Above P v c → age u < age c → age v ≤ m → stamped t stamps c ≡ true → stamped t stamps v ≡ true
+    line-stamped m stamps k here l y s = s
+    line-stamped m stamps k (step {b = c} {p = q} f x) l y s = line-stamped m stamps k x (omega (arith, ok .grows f)) y (k .parent c q (λ z. absurd (let w : age c ≡ age u = ap age z in omega arith)) f (omega (arith, not-younger x)) s)
+
+    -- u's parent is stamped already
+    pub stamp-stop : (b : ℕ) (stamps : List ℕ) → stamped t stamps p ≡ true → StampedUp P age t b u stamps stamps
+    stamp-stop b stamps s = stay t b u stamps (λ m l k v h y. let r : _ = ancestor-of P v u h in line-stamped m stamps k (rw (some-inj (r .1) e) at (r .2)) (ok .grows e) y s)
 
 -- ---- one more stamp
 
@@ -69,108 +80,93 @@ module _ (t : ℕ) (stamps : List ℕ) (p : ℕ) (h : p < length stamps) where
   set-keeps : (v : ℕ) → stamped t stamps v ≡ true → stamped t (set stamps p t) v ≡ true
   set-keeps v m = ⊎-elim (λ (q : v ≡ p). rw q set-stamped) (λ (q : v ≡ p → ⊥). set-other v q ∙ m) (eq? v p)
 
-  module _ (P : Par) (u : ℕ) (e : P u ≡ some p) where
-    pub set-closed : StampedBut P t u stamps → StampedBut P t p (set stamps p t)
-    set-closed k = record {
-      parent = λ v q n f m. ⊎-elim
+  module _ (P : Par) (age : ℕ → ℕ) (ok : Aged P age) (u : ℕ) (e : P u ≡ some p) where
+    set-closed : (m : ℕ) → StampedBut P age t m u stamps → StampedBut P age t m p (set stamps p t)
+    set-closed m k = record {
+      parent = λ v q n f y s. ⊎-elim
           (λ (z : v ≡ u). rw (some-inj (rw z at f) e) set-stamped)
-          (λ (z : v ≡ u → ⊥). set-keeps q (k .parent v q z f (sym (set-other v n) ∙ m)))
+          (λ (z : v ≡ u → ⊥). set-keeps q (k .parent v q z f y (sym (set-other v n) ∙ s)))
           (eq? v u);
     }
 
     -- u's parent is stamped now, and what is above it after
-    pub stamp-on : (age : ℕ → ℕ) → Aged P age → (after : List ℕ) → StampedUp P t p (set stamps p t) after → StampedUp P t u stamps after
-    unfolding stampIf
-    stamp-on age ok after m = record {
-      cells = m .cells ∙ ap₂ rows (fun-ext (λ v. same v (eq? v p))) (length-set stamps p t);
-      closed = m .closed;
+    pub stamp-on : (b : ℕ) (after : List ℕ) → StampedUp P age t b p (set stamps p t) after → StampedUp P age t b u stamps after
+    stamp-on b after g = record {
+      cell = λ v. new v (g .cell v) (eq? v p);
+      line = λ m l k v a y. ⊎-elim
+          (λ (q : eqb v p ≡ true). still-stamped t v (set stamps p t) after (g .cell v) (rw (eqb-true v p q) set-stamped))
+          (λ (q : ancestor P v p ≡ true). g .line m l (set-closed m k) v q y)
+          (or-of (eqb v p) (ancestor P v p) (sym (ancestor-step P age ok v u p e) ∙ a));
+      closed = λ m l k. g .closed m l (set-closed m k);
     }
       where
-        same : (v : ℕ) → (v ≡ p) ⊎ (v ≡ p → ⊥) → stampIf t (ancestor P v p) (at (set stamps p t) v) ≡ stampIf t (ancestor P v u) (at stamps v)
-        same v (inl q) = either (ancestor P v p) (ap (at (set stamps p t)) q ∙ getD-set-same stamps p t 0 h) ∙ ap (λ b. stampIf t b (at stamps v)) (sym (ancestor-step P age ok v u p e ∙ or-left (ancestor P v p) (eq-eqb v p q)))
-          where
-            either : (b : Bool) {c : ℕ} → c ≡ t → stampIf t b c ≡ stampIf t true (at stamps v)
-            either true z = refl
-            either false z = z
-        same v (inr q) =
-            let r : ancestor P v u ≡ ancestor P v p = ancestor-step P age ok v u p e ∙ rw (ne-eqb v p q) in
-            ap (λ b. stampIf t b (at (set stamps p t) v)) (sym r) ∙ ap (λ c. stampIf t (ancestor P v u) c) (getD-set-other stamps p v t 0 q)
+        new : (v : ℕ) → (at after v ≡ at (set stamps p t) v) ⊎ ((at after v ≡ t) × (ancestor P v p ≡ true)) → (v ≡ p) ⊎ (v ≡ p → ⊥) → (at after v ≡ at stamps v) ⊎ ((at after v ≡ t) × (ancestor P v u ≡ true))
+        new v (inl q) (inl z) = inr (q ∙ ap (at (set stamps p t)) z ∙ getD-set-same stamps p t 0 h, rw z (of-ancestor P age ok p u p e here))
+        new v (inl q) (inr z) = inl (q ∙ getD-set-other stamps p v t 0 z)
+        new v (inr q) z = inr (q .0, ancestor-step P age ok v u p e ∙ or-right (eqb v p) (ancestor P v p) (q .1))
 
--- ---- as the function meets it
+-- ---- the loop upwards
 
 -- times below Ages make the forest of rising edges aged
-pub edges-aged : {time : List ℕ} {E : EdgeColumns} → Rising time E → (x : ℕ) → ((i : ℕ) → at time i < Ages) → Aged (parentRow E x) (at time)
+edges-aged : {time : List ℕ} {E : EdgeColumns} → Rising time E → (x : ℕ) → ((i : ℕ) → at time i < Ages) → Aged (parentRow E x) (at time)
 edges-aged {time} {E} up x young = record { grows = λ {b} {p} e. parent-rises time E up x b p e .2; bound = λ {b} {p} e. young p }
 
-module _ (time : List ℕ) (E : EdgeColumns) (x t : ℕ) (stamps : List ℕ) (u : ℕ) (k : Stampable time E x t stamps u) (p : ℕ) (c : p ≡ code (parentRow E x u)) where
-  pub no-parent : p ≡ no-row → StampedUp (parentRow E x) t u stamps stamps
-  unfolding code
-  no-parent n = go (parentRow E x u) refl
-    where
-      go : (o : Option ℕ) → parentRow E x u ≡ o → StampedUp (parentRow E x) t u stamps stamps
-      go none e = stamp-none (parentRow E x) t u stamps (k .closed) e
-      go (some q) e = absurd (let z : code (parentRow E x u) ≡ q = ap code e in omega (arith, parent-rises time E (k .rising) x u q e .1, k .few))
+-- an ancestor is older
+pub ancestor-older : {time : List ℕ} {E : EdgeColumns} → Rising time E → (x : ℕ) → ((i : ℕ) → at time i < Ages) → (v u : ℕ) → ancestor (parentRow E x) v u ≡ true → at time u < at time v
+ancestor-older {time} {E} up x young v u h =
+    let ok : Aged (parentRow E x) (at time) = edges-aged up x young in
+    let r : _ = ancestor-of (parentRow E x) v u h in
+    omega (arith, ok .grows (r .1), not-younger (parentRow E x) (at time) ok (r .2))
 
-  module _ (n : p ≡ no-row → ⊥) where
-    is-parent : parentRow E x u ≡ some p
-    unfolding code
-    is-parent = go (parentRow E x u) refl
-      where
-        go : (o : Option ℕ) → parentRow E x u ≡ o → parentRow E x u ≡ some p
-        go none e = absurd (n (c ∙ ap code e))
-        go (some q) e = e ∙ ap some (sym (c ∙ ap code e))
-
-    pub parent-in : p < length time
-    parent-in = parent-rises time E (k .rising) x u p is-parent .1
-
-    pub parent-falls : older time p < older time u
-    parent-falls = older-falls time u p parent-in (parent-rises time E (k .rising) x u p is-parent .2)
-
-    pub parent-next : Stampable time E x t (set stamps p t) p
-    parent-next = record {
-      rising = k .rising;
-      few = k .few;
-      long = omega (arith, k .long, length-set stamps p t);
-      row = parent-in;
-      closed = set-closed t stamps p (omega (arith, parent-in, k .long)) (parentRow E x) u is-parent (k .closed);
-    }
-
-    module _ (young : (i : ℕ) → at time i < Ages) where
-      pub parent-stamped : at stamps p ≡ t → StampedUp (parentRow E x) t u stamps stamps
-      unfolding stamped
-      parent-stamped e = stamp-stop (parentRow E x) (at time) (edges-aged (k .rising) x young) t u p is-parent stamps (k .closed) (eq-eqb (at stamps p) t e)
-
-      pub parent-on : (after : List ℕ) → StampedUp (parentRow E x) t p (set stamps p t) after → StampedUp (parentRow E x) t u stamps after
-      parent-on after m = stamp-on t stamps p (omega (arith, parent-in, k .long)) (parentRow E x) u is-parent (at time) (edges-aged (k .rising) x young) after m
-
--- ---- the loop upwards: from u0 it has come to u
-
-pub record Climbing (time : List ℕ) (E : EdgeColumns) (x t : ℕ) (stamps₀ : List ℕ) (u0 : ℕ) (stamps : List ℕ) (u : ℕ) : Type 0 where
+-- from u0 it has come to u
+pub record Climbing (time : List ℕ) (E : EdgeColumns) (x t b : ℕ) (stamps₀ : List ℕ) (u0 : ℕ) (stamps : List ℕ) (u : ℕ) : Type 0 where
   pub long : length stamps ≡ length stamps₀
-  pub here : Stampable time E x t stamps u
-  pub onward : (after : List ℕ) → StampedUp (parentRow E x) t u stamps after → StampedUp (parentRow E x) t u0 stamps₀ after
+  pub here : Stampable time E stamps u
+  pub onward : (after : List ℕ) → StampedUp (parentRow E x) (at time) t b u stamps after → StampedUp (parentRow E x) (at time) t b u0 stamps₀ after
 
-pub climb-start : {time : List ℕ} {E : EdgeColumns} {x t : ℕ} {stamps : List ℕ} {u : ℕ} → Stampable time E x t stamps u → Climbing time E x t stamps u stamps u
+pub climb-start : {time : List ℕ} {E : EdgeColumns} {x t b : ℕ} {stamps : List ℕ} {u : ℕ} → Stampable time E stamps u → Climbing time E x t b stamps u stamps u
 climb-start k = record { long = refl; here = k; onward = λ after m. m }
 
-module _ {time : List ℕ} {E : EdgeColumns} {x t : ℕ} {stamps₀ : List ℕ} {u0 : ℕ} {stamps : List ℕ} {u : ℕ} (l : Climbing time E x t stamps₀ u0 stamps u) (p : ℕ) (c : p ≡ code (parentRow E x u)) where
-  pub climb-top : p ≡ no-row → StampedUp (parentRow E x) t u0 stamps₀ stamps
-  climb-top n = l .onward stamps (no-parent time E x t stamps u (l .here) p c n)
+module _ {time : List ℕ} {E : EdgeColumns} {x t b : ℕ} {stamps₀ : List ℕ} {u0 : ℕ} {stamps : List ℕ} {u : ℕ} (l : Climbing time E x t b stamps₀ u0 stamps u) where
+  module _ (young : (i : ℕ) → at time i < Ages) where
+    aged : Aged (parentRow E x) (at time)
+    aged = edges-aged (l .here .rising) x young
 
-  module _ (n : p ≡ no-row → ⊥) where
-    pub climb-in : (p < length time) × (p < length stamps)
-    climb-in = let i : _ = parent-in time E x t stamps u (l .here) p c n in (i, omega (arith, i, l .here .long))
+    pub climb-reached : b ≤ at time u → StampedUp (parentRow E x) (at time) t b u0 stamps₀ stamps
+    climb-reached m = l .onward stamps (stamp-reached (parentRow E x) (at time) aged t b u stamps m)
 
-    pub climb-falls : older time p < older time u
-    climb-falls = parent-falls time E x t stamps u (l .here) p c n
+  module _ (p : ℕ) (c : p ≡ code (parentRow E x u)) where
+    pub climb-top : ((i : ℕ) → at time i < Ages) → p ≡ no-row → StampedUp (parentRow E x) (at time) t b u0 stamps₀ stamps
+    unfolding code
+    climb-top young n = l .onward stamps (stamp-none (parentRow E x) (at time) (aged young) t b u stamps (none-is (parentRow E x u) refl))
+      where
+        none-is : (o : Option ℕ) → parentRow E x u ≡ o → o ≡ none
+        none-is none e = refl
+        none-is (some q) e = absurd (let z : code (parentRow E x u) ≡ q = ap code e in omega (arith, parent-rises time E (l .here .rising) x u q e .1, l .here .few))
 
-    module _ (young : (i : ℕ) → at time i < Ages) where
-      pub climb-met : at stamps p ≡ t → StampedUp (parentRow E x) t u0 stamps₀ stamps
-      climb-met e = l .onward stamps (parent-stamped time E x t stamps u (l .here) p c n young e)
+    module _ (n : p ≡ no-row → ⊥) where
+      is-parent : parentRow E x u ≡ some p
+      unfolding code
+      is-parent = go (parentRow E x u) refl
+        where
+          go : (o : Option ℕ) → parentRow E x u ≡ o → parentRow E x u ≡ some p
+          go none e = absurd (n (c ∙ ap code e))
+          go (some q) e = e ∙ ap some (sym (c ∙ ap code e))
 
-      pub climb-on : Climbing time E x t stamps₀ u0 (set stamps p t) p
-      climb-on = record {
-        long = length-set stamps p t ∙ l .long;
-        here = parent-next time E x t stamps u (l .here) p c n;
-        onward = λ after m. l .onward after (parent-on time E x t stamps u (l .here) p c n young after m);
-      }
+      pub climb-in : (p < length time) × (p < length stamps)
+      climb-in = let i : _ = parent-rises time E (l .here .rising) x u p is-parent in (i .1, omega (arith, i .1, l .here .long))
+
+      pub climb-falls : older time p < older time u
+      climb-falls = let i : _ = parent-rises time E (l .here .rising) x u p is-parent in older-falls time u p (i .1) (i .2)
+
+      module _ (young : (i : ℕ) → at time i < Ages) where
+        pub climb-met : at stamps p ≡ t → StampedUp (parentRow E x) (at time) t b u0 stamps₀ stamps
+        unfolding stamped
+        climb-met e = l .onward stamps (stamp-stop (parentRow E x) (at time) (aged young) t u p is-parent b stamps (eq-eqb (at stamps p) t e))
+
+        pub climb-on : Climbing time E x t b stamps₀ u0 (set stamps p t) p
+        climb-on = record {
+          long = length-set stamps p t ∙ l .long;
+          here = record { rising = l .here .rising; few = l .here .few; long = omega (arith, l .here .long, length-set stamps p t); row = climb-in .0 };
+          onward = λ after m. l .onward after (stamp-on t stamps p (climb-in .1) (parentRow E x) (at time) (aged young) u is-parent b after m);
+        }

@@ -1,11 +1,11 @@
 -- Rule 10 by rows: what a site's marks say of the mutations gone over, and what rules 1 and 9 find of the mutations.
 use mathlib.Core.Path.{_≡_, refl, ap, fun-ext}
-use mathlib.Core.Bool.{Bool, true, false, not}
+use mathlib.Core.Bool.{Bool, true, false}
 use mathlib.Core.List.{List}
-use Prim.Native.Nat.{ℕ, zero, suc, min, _+_, _<_, _≤_}
-use lib.Dec.{eqb, leb}
+use Prim.Native.Nat.{ℕ, suc, min, _+_, _<_, _≤_}
+use lib.Dec.{eqb}
 use lib.ListN.{length}
-use Rattle.meaning.specs.Words.{and, or, at, anyBelow, lowest}
+use Rattle.meaning.specs.Words.{and, at, anyBelow, lowest}
 use Rattle.meaning.specs.Rows.{EdgeColumns, MutationColumns, edgesOf}
 use Rattle.meaning.specs.Forest.{ancestor}
 use Rattle.meaning.specs.Check.{mutationAbove, overtakes}
@@ -13,6 +13,8 @@ use Rattle.bridge.specs.Parents.{no-row, parentRow}
 use Rattle.ancestry.specs.Column.{Rising}
 use Rattle.overtaking.specs.Known.{Known}
 use Rattle.overtaking.specs.Stamps.{stamped, StampedAbove}
+use Rattle.overtaking.specs.Sites.{From}
+use Rattle.overtaking.specs.Bounds.{BoundedSince, BoundedNext}
 
 -- v is a proper ancestor, at site row s, of the node of one of the first i mutations at that site
 unfoldable pub over : EdgeColumns → List ℕ → List ℕ → List ℕ → ℕ → ℕ → ℕ → Bool
@@ -31,15 +33,6 @@ rule-10 E position M i = refl
 
 pub lowest-10 : (E : EdgeColumns) (position : List ℕ) (M : MutationColumns) (n : ℕ) → lowest (overtaken E position (M .site) (M .node)) n ≡ lowest (mutationAbove (edgesOf (λ r. r) E) position (λ r. r) M) n
 lowest-10 E position M n = ap (λ f. lowest f n) (fun-ext (rule-10 E position M))
-
--- mutation row i is the last of its site
-unfoldable pub endsSite : List ℕ → ℕ → Bool
-endsSite site i = or (leb (length site) (suc i)) (not (eqb (at site i) (at site (suc i))))
-
--- some site has two mutations
-unfoldable pub somePair : List ℕ → Bool
-unfolding endsSite anyBelow
-somePair site = anyBelow (λ i. not (endsSite site i)) (length site)
 
 -- what 8 finds of the sites: the positions do not fall
 pub record Rightwards (position : List ℕ) : Type 0 where
@@ -60,25 +53,30 @@ pub record Ordered (time : List ℕ) (E : EdgeColumns) (position site node : Lis
   pub few : length time ≤ no-row
   pub few-sites : length position ≤ no-row
 
--- stamps at site row s after the first i mutations: the stamp is the site's row and one, and it is on the rows above them
-pub record Ready (E : EdgeColumns) (position site node : List ℕ) (s i : ℕ) (stamps : List ℕ) : Type 0 where
-  pub low : (v : ℕ) → v < length stamps → at stamps v ≤ s + 1
-  pub cells : (v : ℕ) → v < length stamps → stamped (s + 1) stamps v ≡ over E position site node s i v
-  pub closed : StampedAbove (parentRow E (at position s)) (s + 1) stamps
+-- stamps at site row s after the first i mutations: the stamp is the site's row and one; only rows above them have it, and of those all
+-- that are no older than the node of a mutation still to come, up to which what is stamped is closed upwards
+pub record Ready (time : List ℕ) (E : EdgeColumns) (position site node : List ℕ) (s i : ℕ) (stamps : List ℕ) : Type 0 where
+  pub low : (v : ℕ) → at stamps v ≤ s + 1
+  pub only : (v : ℕ) → stamped (s + 1) stamps v ≡ true → over E position site node s i v ≡ true
+  pub all : (j v : ℕ) → From site s i j → at time v ≤ at time (at node j) → over E position site node s i v ≡ true → stamped (s + 1) stamps v ≡ true
+  pub closed : (j : ℕ) → From site s i j → StampedAbove (parentRow E (at position s)) (at time) (s + 1) (at time (at node j)) stamps
 
 -- stamps after mutation row i: ready for the next row, where there is one
-pub record ReadyNext (E : EdgeColumns) (position site node : List ℕ) (i : ℕ) (stamps : List ℕ) : Type 0 where
-  pub next : suc i < length site → Ready E position site node (at site (suc i)) (suc i) stamps
+pub record ReadyNext (time : List ℕ) (E : EdgeColumns) (position site node : List ℕ) (i : ℕ) (stamps : List ℕ) : Type 0 where
+  pub next : suc i < length site → Ready time E position site node (at site (suc i)) (suc i) stamps
 
--- what is kept before mutation row i, where there is one: the parents known at its site, and its site's stamps
-pub record Going (E : EdgeColumns) (position site node : List ℕ) (i : ℕ) (par until stamps : List ℕ) : Type 0 where
+-- what is kept before mutation row i, where there is one: the parents known at its site, its site's stamps, and its site's bounds unless
+-- the site begins with it
+pub record Going (time : List ℕ) (E : EdgeColumns) (position site node : List ℕ) (i : ℕ) (par until stamps oldest : List ℕ) : Type 0 where
   pub known : Known E (at position (at site i)) par until
-  pub ready : Ready E position site node (at site i) i stamps
+  pub ready : Ready time E position site node (at site i) i stamps
+  pub bounded : BoundedSince time site node i oldest
 
 -- and after it: the same for the next row, where there is one
-pub record Gone (E : EdgeColumns) (position site node : List ℕ) (i : ℕ) (par until stamps : List ℕ) : Type 0 where
+pub record Gone (time : List ℕ) (E : EdgeColumns) (position site node : List ℕ) (i : ℕ) (par until stamps oldest : List ℕ) : Type 0 where
   pub known : Known E (at position (at site i)) par until
-  pub ready : ReadyNext E position site node i stamps
+  pub ready : ReadyNext time E position site node i stamps
+  pub bounded : BoundedNext time site node i oldest
 
 -- ---- the mutations in another order, with their rows beside them
 

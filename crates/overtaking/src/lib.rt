@@ -14,10 +14,12 @@ ghost use Rattle.overtaking.specs.Overtaken.{Rightwards, Lined, overtake
 use meaning::NodeTable;
 
 mod known; // answers of the lookup, kept
+mod sites; // where a site's mutations end, and whether they stand older first
+mod bounds; // how far up a mutation's ancestors matter
 mod stamps; // stamping upwards, one mutation after another
 
 // 01's rule 10 by rows: the lowest mutation row whose node is a proper ancestor, at its site's position, of the node of an earlier
-// mutation at that site, or the number of rows. Without two mutations at one site there is nothing to look at.
+// mutation at that site, or the number of rows. Where each site's mutations stand older first there is nothing to look at.
 pub fn first_above(
     len: u32,
     time: &[u32],
@@ -42,13 +44,14 @@ pub fn first_above(
         (edgeTable (now (left .entry)) (now (right .entry)) (now (parent .entry)) (now (child .entry)))) (now (position .entry)) (λ x. x)
         (mutationTable (now (site .entry)) (now (node .entry)) (now (derived .entry)))) (length (now (site .entry))) ⌝ }
 {
-    if !stamps::some_pair(site) {
+    if !sites::some_younger_first(time, site, node) {
         return site.len();
     }
     let mut ends = [0u32; NodeTable::MOST];
     let mut par = [0u32; NodeTable::MOST];
     let mut until = [0u32; NodeTable::MOST];
     let mut marks = [0u32; NodeTable::MOST];
+    let mut oldest = [0u32; NodeTable::MOST];
     ancestry::index::fill_ends(left, right, parent, child, by_child, &mut ends);
     stamps::lowest_above(
         len,
@@ -65,6 +68,7 @@ pub fn first_above(
         &mut par,
         &mut until,
         &mut marks,
+        &mut oldest,
     )
 }
 
@@ -96,6 +100,7 @@ fn least_by_child(
     let mut par = [0u32; NodeTable::MOST];
     let mut until = [0u32; NodeTable::MOST];
     let mut marks = [0u32; NodeTable::MOST];
+    let mut oldest = [0u32; NodeTable::MOST];
     ancestry::index::fill_ends(left, right, parent, child, by_child, &mut ends);
     stamps::least_above(
         len,
@@ -113,10 +118,11 @@ fn least_by_child(
         &mut par,
         &mut until,
         &mut marks,
+        &mut oldest,
     )
 }
 
-// The same of edges that are not by child yet; by_child is a working column. Without two mutations at one site the edges are left alone.
+// The same of edges that are not by child yet; by_child is a working column. Where each site's mutations stand older first the edges are left alone.
 pub fn least_row_above(
     len: u32,
     time: &[u32],
@@ -140,7 +146,7 @@ pub fn least_row_above(
         ≡ lowest (overtakenRow
         (edgeTable (now (left .entry)) (now (right .entry)) (now (parent .entry)) (now (child .entry))) (now (position .entry)) (now (site .entry)) (now (node .entry)) (now (row .entry))) (length (now (site .entry))) ⌝ }
 {
-    if !stamps::some_pair(site) {
+    if !sites::some_younger_first(time, site, node) {
         return site.len();
     }
     rules::shared::by_child(left, right, parent, child, by_child);

@@ -1,5 +1,5 @@
 // Stamping upwards, and one mutation after another in the order of their sites: the ancestors of a site's earlier mutations have the
-// site's stamp, so a mutation's own stamp tells whether it is above one of them.
+// site's stamp as far up as a later one can be, so a mutation's own stamp tells whether it is above one of them.
 ghost use mathlib.Core.Path.{_≡_};
 ghost use Prim.Native.Nat.{ℕ, _+_, _<_, _≤_};
 ghost use lib.ListN.{length};
@@ -8,10 +8,11 @@ ghost use Rattle.meaning.specs.Rows.{edgeTable};
 ghost use Rattle.bridge.specs.Parents.{parentRow};
 ghost use Rattle.overtaking.specs.Known.{Known, Keeping};
 ghost use Rattle.overtaking.specs.Stamps.{Stampable, StampedUp};
-ghost use Rattle.overtaking.specs.Overtaken.{endsSite, somePair, overtaken, overtakenRow, lowerOf, Ordered, Going, Gone};
+ghost use Rattle.overtaking.specs.Overtaken.{overtaken, overtakenRow, lowerOf, Ordered, Going, Gone};
 use ancestry::ParentColumn;
 
-// Stamps every proper ancestor of row u0 at x. What is stamped is closed upwards, so the first stamp met ends the way.
+// Stamps the proper ancestors of row u0 at x that are no older than the bound, and perhaps one more. What is stamped is closed upwards, so
+// the first stamp met ends the way.
 fn stamp_up(
     len: u32,
     time: &[u32],
@@ -23,21 +24,22 @@ fn stamp_up(
     ends: &[u32],
     x: u32,
     t: u32,
+    bound: u32,
     par: &mut [u32],
     until: &mut [u32],
     stamps: &mut [u32],
     u0: u32,
 )
     requires { ⌜
-        Stampable (now time) (edgeTable (now left) (now right) (now parent) (now child)) x t (now stamps) u0 × Keeping
+        Stampable (now time) (edgeTable (now left) (now right) (now parent) (now child)) (now stamps) u0 × Keeping
         (edgeTable (now left) (now right) (now parent) (now child)) len (length (now time)) (now «by_child») (now ends) (now par) (now until) × Known
         (edgeTable (now left) (now right) (now parent) (now child)) x (now par) (now until) ⌝ }
     ensures { λ _. ⌜
-        StampedUp (parentRow (edgeTable (now (left .entry)) (now (right .entry)) (now (parent .entry)) (now (child .entry))) x) t u0 (now (stamps .entry)) (now (stamps .exit)) × Known
+        StampedUp (parentRow (edgeTable (now (left .entry)) (now (right .entry)) (now (parent .entry)) (now (child .entry))) x) (at (now (time .entry))) t bound u0 (now (stamps .entry)) (now (stamps .exit)) × Known
         (edgeTable (now (left .entry)) (now (right .entry)) (now (parent .entry)) (now (child .entry))) x (now (par .exit)) (now (until .exit)) ⌝ }
 {
     let mut u = u0;
-    loop {
+    while time[u as usize] < bound {
         let p = crate::known::parent_kept(
             len,
             left,
@@ -62,31 +64,6 @@ fn stamp_up(
     }
 }
 
-// Whether mutation row i is the last of its site.
-fn ends_site(site: &[u32], i: usize) -> bool
-    requires { ⌜ i < length (now site) ⌝ }
-    ensures { λ r. ⌜ r ≡ endsSite (now (site .entry)) i ⌝ }
-{
-    if site.len() - i <= 1 {
-        return true;
-    }
-    site[i] != site[i + 1]
-}
-
-// Whether some site has two mutations.
-pub fn some_pair(site: &[u32]) -> bool
-    ensures { λ r. ⌜ r ≡ somePair (now (site .entry)) ⌝ }
-{
-    let mut i = 0;
-    while i < site.len() {
-        if !ends_site(site, i) {
-            return true;
-        }
-        i += 1;
-    }
-    false
-}
-
 // Stamps the ancestors of mutation row i's node, unless no other mutation of its site follows.
 fn stamp_above(
     len: u32,
@@ -104,18 +81,21 @@ fn stamp_above(
     par: &mut [u32],
     until: &mut [u32],
     stamps: &mut [u32],
+    oldest: &mut [u32],
 )
     requires { ⌜
         Ordered (now time) (edgeTable (now left) (now right) (now parent) (now child)) (now position) (now site) (now node) × Keeping
-        (edgeTable (now left) (now right) (now parent) (now child)) len (length (now time)) (now «by_child») (now ends) (now par) (now until) × (length (now time) ≤ length (now stamps)) × (i < length (now site)) × Going
-        (edgeTable (now left) (now right) (now parent) (now child)) (now position) (now site) (now node) i (now par) (now until) (now stamps) ⌝ }
+        (edgeTable (now left) (now right) (now parent) (now child)) len (length (now time)) (now «by_child») (now ends) (now par) (now until) × (length (now time) ≤ length (now stamps)) × (length (now time) ≤ length (now oldest)) × (i < length (now site)) × Going
+        (now time) (edgeTable (now left) (now right) (now parent) (now child)) (now position) (now site) (now node) i (now par) (now until) (now stamps) (now oldest) ⌝ }
     ensures { λ _. ⌜
-        Gone (edgeTable (now (left .entry)) (now (right .entry)) (now (parent .entry)) (now (child .entry))) (now (position .entry)) (now (site .entry)) (now (node .entry)) i (now (par .exit)) (now (until .exit)) (now (stamps .exit)) ⌝ }
+        Gone (now (time .entry)) (edgeTable (now (left .entry)) (now (right .entry)) (now (parent .entry)) (now (child .entry))) (now (position .entry)) (now (site .entry)) (now (node .entry)) i (now (par .exit)) (now (until .exit)) (now (stamps .exit)) (now (oldest .exit)) ⌝ }
 {
-    if ends_site(site, i) {
+    if crate::sites::ends_site(site, i) {
         return;
     }
+    crate::bounds::lay_bounds(time, site, node, i, oldest);
     let s = site[i];
+    let u = node[i];
     stamp_up(
         len,
         time,
@@ -127,10 +107,11 @@ fn stamp_above(
         ends,
         position[s as usize],
         s + 1,
+        oldest[u as usize],
         par,
         until,
         stamps,
-        node[i],
+        u,
     );
 }
 
@@ -151,14 +132,15 @@ fn overtakes(
     par: &mut [u32],
     until: &mut [u32],
     stamps: &mut [u32],
+    oldest: &mut [u32],
 ) -> bool
     requires { ⌜
         Ordered (now time) (edgeTable (now left) (now right) (now parent) (now child)) (now position) (now site) (now node) × Keeping
-        (edgeTable (now left) (now right) (now parent) (now child)) len (length (now time)) (now «by_child») (now ends) (now par) (now until) × (length (now time) ≤ length (now stamps)) × (i < length (now site)) × Going
-        (edgeTable (now left) (now right) (now parent) (now child)) (now position) (now site) (now node) i (now par) (now until) (now stamps) ⌝ }
+        (edgeTable (now left) (now right) (now parent) (now child)) len (length (now time)) (now «by_child») (now ends) (now par) (now until) × (length (now time) ≤ length (now stamps)) × (length (now time) ≤ length (now oldest)) × (i < length (now site)) × Going
+        (now time) (edgeTable (now left) (now right) (now parent) (now child)) (now position) (now site) (now node) i (now par) (now until) (now stamps) (now oldest) ⌝ }
     ensures { λ r. ⌜
         (r ≡ overtaken (edgeTable (now (left .entry)) (now (right .entry)) (now (parent .entry)) (now (child .entry))) (now (position .entry)) (now (site .entry)) (now (node .entry)) i) × Gone
-        (edgeTable (now (left .entry)) (now (right .entry)) (now (parent .entry)) (now (child .entry))) (now (position .entry)) (now (site .entry)) (now (node .entry)) i (now (par .exit)) (now (until .exit)) (now (stamps .exit)) ⌝ }
+        (now (time .entry)) (edgeTable (now (left .entry)) (now (right .entry)) (now (parent .entry)) (now (child .entry))) (now (position .entry)) (now (site .entry)) (now (node .entry)) i (now (par .exit)) (now (until .exit)) (now (stamps .exit)) (now (oldest .exit)) ⌝ }
 {
     let hit = stamps[node[i] as usize] == site[i] + 1;
     stamp_above(
@@ -177,11 +159,12 @@ fn overtakes(
         par,
         until,
         stamps,
+        oldest,
     );
     hit
 }
 
-// The lowest mutation row that is above an earlier one of its site, or the number of rows; par, until and stamps are working columns.
+// The lowest mutation row that is above an earlier one of its site, or the number of rows; par, until, stamps and oldest are working columns.
 pub fn lowest_above(
     len: u32,
     time: &[u32],
@@ -197,10 +180,11 @@ pub fn lowest_above(
     par: &mut [u32],
     until: &mut [u32],
     stamps: &mut [u32],
+    oldest: &mut [u32],
 ) -> usize
     requires { ⌜
         Ordered (now time) (edgeTable (now left) (now right) (now parent) (now child)) (now position) (now site) (now node) × Keeping
-        (edgeTable (now left) (now right) (now parent) (now child)) len (length (now time)) (now «by_child») (now ends) (now par) (now until) × (length (now time) ≤ length (now stamps)) × ((u : ℕ) → at (now until) u ≡ 0) × ((u : ℕ) → at (now stamps) u ≡ 0) ⌝ }
+        (edgeTable (now left) (now right) (now parent) (now child)) len (length (now time)) (now «by_child») (now ends) (now par) (now until) × (length (now time) ≤ length (now stamps)) × (length (now time) ≤ length (now oldest)) × ((u : ℕ) → at (now until) u ≡ 0) × ((u : ℕ) → at (now stamps) u ≡ 0) ⌝ }
     ensures { λ r. ⌜
         r
         ≡ lowest (overtaken (edgeTable (now (left .entry)) (now (right .entry)) (now (parent .entry)) (now (child .entry))) (now (position .entry)) (now (site .entry)) (now (node .entry))) (length (now (site .entry))) ⌝ }
@@ -223,6 +207,7 @@ pub fn lowest_above(
             par,
             until,
             stamps,
+            oldest,
         ) {
             return i;
         }
@@ -260,10 +245,11 @@ pub fn least_above(
     par: &mut [u32],
     until: &mut [u32],
     stamps: &mut [u32],
+    oldest: &mut [u32],
 ) -> usize
     requires { ⌜
         Ordered (now time) (edgeTable (now left) (now right) (now parent) (now child)) (now position) (now site) (now node) × Keeping
-        (edgeTable (now left) (now right) (now parent) (now child)) len (length (now time)) (now «by_child») (now ends) (now par) (now until) × (length (now time) ≤ length (now stamps)) × (length (now row) ≡ length (now site)) × ((u : ℕ) → at (now until) u ≡ 0) × ((u : ℕ) → at (now stamps) u ≡ 0) ⌝ }
+        (edgeTable (now left) (now right) (now parent) (now child)) len (length (now time)) (now «by_child») (now ends) (now par) (now until) × (length (now time) ≤ length (now stamps)) × (length (now time) ≤ length (now oldest)) × (length (now row) ≡ length (now site)) × ((u : ℕ) → at (now until) u ≡ 0) × ((u : ℕ) → at (now stamps) u ≡ 0) ⌝ }
     ensures { λ r. ⌜
         r
         ≡ lowest (overtakenRow (edgeTable (now (left .entry)) (now (right .entry)) (now (parent .entry)) (now (child .entry))) (now (position .entry)) (now (site .entry)) (now (node .entry)) (now (row .entry))) (length (now (site .entry))) ⌝ }
@@ -287,6 +273,7 @@ pub fn least_above(
             par,
             until,
             stamps,
+            oldest,
         );
         least = lower_of(least, row[i] as usize, hit);
         i += 1;

@@ -2,8 +2,8 @@
 use Rattle.overtaking.proofs.Overtaking.{last-ends, inner-ends}
 use native.Mathlib.Omega.{arith}
 use borrow.Author.Needs.{needs}
-use Rattle.overtaking.proofs.stamps.ends_site.Statement.{statement}
-use Rattle.overtaking.proofs.stamps.ends_site.Tie as tie
+use Rattle.overtaking.proofs.sites.ends_site.Statement.{statement}
+use Rattle.overtaking.proofs.sites.ends_site.Tie as tie
 
 sub-if1 : tie.Need-sub-if1
 sub-if1 c = search needs
