@@ -33,12 +33,17 @@ fn rank_with(l: &[u32], own: &mut [u32], idx: &mut [u32])
     rank_by(l, &mut own[..n], idx);
 }
 
-// Fills idx with the rows of l by their numbers, of one number the lower row first.
+// Fills idx with the rows of l by their numbers, of one number the lower row first: by a stable sort, or for few rows with the rows as a second key.
 pub fn rank(l: &[u32], idx: &mut [u32])
     requires { ⌜ (length (now idx) ≡ length (now l)) × (length (now l) ≤ 4096) ⌝ }
     ensures { λ _. ⌜ Ranked (now (l .entry)) (now (idx .exit)) ⌝ }
 {
-    let mut own = [0u32; Spare::CELLS];
+    if crate::digits_pay(l.len()) {
+        crate::iota(idx);
+        crate::digits::one_key(l, idx);
+        return;
+    }
+    let mut own = [0u32; Spare::FEW];
     rank_with(l, &mut own, idx);
 }
 
