@@ -43,6 +43,7 @@ pub fn swept(
     let mut par = [0u32; NodeTable::MOST];
     let mut count = [0u32; NodeTable::MOST];
     let mut sum = [0u32; NodeTable::MOST];
+    let mut low = [0u32; NodeTable::MOST];
     let mut up = [0u32; NodeTable::MOST];
     let mut touched = [0u32; NodeTable::MOST];
     let mut listed = [0u8; NodeTable::MOST];
@@ -64,6 +65,7 @@ pub fn swept(
         &mut par[..n],
         &mut count[..n],
         &mut sum[..n],
+        &mut low[..n],
         &mut up[..n],
         &mut touched,
         &mut listed[..n],

@@ -6,19 +6,18 @@ use mathlib.Core.Option.{Option, none, some}
 use mathlib.Core.Logic.{_⊎_, inl, inr, ⊎-elim}
 use Prim.Native.Nat.{ℕ, _+_, _<_, _≤_}
 use native.Mathlib.Omega.{arith}
-use borrow.Author.Tests.{le-ltb}
+use borrow.Author.Tests.{lt-ltb, le-ltb}
 use lib.Dec.{ltb}
 use lib.ListN.{length, getD, set}
 use lib.Seq.{getD-set-same, getD-set-other}
 use Rattle.meaning.specs.Words.{or}
 use Rattle.meaning.specs.Forest.{Par}
 use Rattle.laws.specs.Bools.{clash, eq?}
-use Rattle.forest.specs.Lines.{Ranked}
 use Rattle.mend.specs.Right as right
-use Rattle.mend.specs.Right.{live, stands, Grows}
-use Rattle.mend.specs.Line.{parOf, Over, root, hit, on, Pass, start, next, Stop, ends, at, over, Climb, Gained}
-use Rattle.mend.proofs.Mending.{live-other}
-use Rattle.mend.proofs.Reading.{live-cases, dead, stands-no, stands-sample, stands-two, of-par, no-parent, ranked, opt-none, opt-some}
+use Rattle.mend.specs.Right.{live, stands, more, Grows}
+use Rattle.mend.specs.Line.{parOf, Over, root, hit, on, Pass, start, next, ends, at, over, Rise, as-before, risen, Climb, Gained}
+use Rattle.mend.proofs.Mending.{live-other, live-pos}
+use Rattle.mend.proofs.Reading.{lt?, live-cases, dead, stands-no, stands-live, stands-sample, stands-two, of-par, no-parent, ranked, opt-none, opt-some}
 
 module _ (S C : List ℕ) (q : ℕ) where
   stands-other : (x v : ℕ) → (v ≡ q → ⊥) → stands S (set C q x) v ≡ stands S C v
@@ -37,38 +36,38 @@ module _ (S C : List ℕ) (q : ℕ) where
     pub stands-stop : live S C q ≡ true → stands S (set C q (getD C q 0 + 1)) q ≡ true
     stands-stop h = ⊎-elim (λ s. stands-sample S (set C q (getD C q 0 + 1)) q s) (λ s. stands-two S (set C q (getD C q 0 + 1)) q (omega (arith, getD-set-same C q (getD C q 0 + 1) 0 hq))) (live-cases S C q h)
 
-pub pass-over : {P : Par} {K K' : ℕ → Bool} {c d : ℕ} {o : Option ℕ} (rank : ℕ → ℕ) → Ranked P rank → Pass P K c d → ((y : ℕ) → rank y ≤ rank d → K' y ≡ K y) → Over P K' o d → Over P K' o c
-pass-over rank ok start h r = r
-pass-over rank ok (next {d} {y} s e k) h r = pass-over rank ok s (λ z l. h z (omega (arith, ok .grows e))) (on e (h y (omega arith) ∙ k) r)
+-- a way by rows that do not live stands for one by rows that do not stand
+pub pass-map : {P : Par} {K K' : ℕ → Bool} {c d : ℕ} → ((y : ℕ) → K y ≡ false → K' y ≡ false) → Pass P K c d → Pass P K' c d
+pass-map h start = start
+pass-map h (next {y = y} s e k) = next (pass-map h s) e (h y k)
 
-pub stop-one : {P : List ℕ} {L : ℕ → Bool} {r s q : ℕ} → Stop P L r q → Stop P L s q → r ≡ s
-stop-one (ends e z) (ends f y) = z ∙ sym y
-stop-one (ends e z) (at n l y) = absurd (n e)
-stop-one (ends e z) (over n l y) = absurd (n e)
-stop-one (at n l z) (ends f y) = absurd (n f)
-stop-one (at n l z) (at m k y) = z ∙ sym y
-stop-one (at n l z) (over m k y) = absurd (clash l k)
-stop-one (over n l z) (ends f y) = absurd (n f)
-stop-one (over n l z) (at m k y) = absurd (clash k l)
-stop-one (over n l z) (over m k y) = stop-one z y
+-- what is over the end of such a way is over its start
+pub pass-over : {P : Par} {K K' : ℕ → Bool} {c d : ℕ} {o : Option ℕ} → ((y : ℕ) → K y ≡ false → K' y ≡ false) → Pass P K c d → Over P K' o d → Over P K' o c
+pass-over h start r = r
+pass-over h (next {y = y} s e k) r = pass-over h s (on e (h y k) r)
 
--- an edge of a live row is on no such way
-pub stop-edge : (P : List ℕ) (L : ℕ → Bool) (c p r q : ℕ) → L c ≡ true → Stop P L r q → Stop (set P c p) L r q
-stop-edge P L c p r q l (ends e z) = ends e z
-stop-edge P L c p r q l (at n k z) = at n k z
-stop-edge P L c p r q l (over n k z) = over n k (subst (λ (x : ℕ). Stop (set P c p) L r x) (sym (getD-set-other P c q p 0 (λ e. clash l (ap L (sym e) ∙ k)))) (stop-edge P L c p r (getD P q 0) l z))
+one-more : (x : ℕ) → ltb 2 (x + 1) ≡ ltb 1 x
+one-more x = ⊎-elim (λ (l : 1 < x). lt-ltb 2 (x + 1) (omega arith) ∙ sym (lt-ltb 1 x l)) (λ (l : x ≤ 1). le-ltb 2 (x + 1) (omega arith) ∙ sym (le-ltb 1 x l)) (lt? 1 x)
 
-pub climb-start : (T S P C : List ℕ) (q d : ℕ) → d < length P → getD P d 0 ≡ q → Climb T S P C C q d q d
-climb-start T S P C q d h e = record { inside = h; par = e; same = λ v. refl; above = λ v l. refl; pass = start; stop = λ r x. x }
+-- with one live child more than two a row stood before it got that child
+more-stood : (S C C' : List ℕ) (q : ℕ) → q < length C → C' ≡ set C q (getD C q 0 + 1) → more S C' 2 q ≡ stands S C q
+unfolding more stands
+more-stood S C C' q h ec = ap (λ (b : Bool). or (ltb 0 (getD S q 0)) b) (ap (λ (x : List ℕ). ltb 2 (getD x q 0)) ec ∙ ap (ltb 2) (getD-set-same C q (getD C q 0 + 1) 0 h) ∙ one-more (getD C q 0))
 
-module _ (T S P C₀ C C' : List ℕ) (q0 d0 q d : ℕ) (g : Grows T P) (k : Climb T S P C₀ C q0 d0 q d) where
-  pub climb-end : q ≡ right.none → Gained S P C₀ C q0 d0 right.none
+pub climb-start : (T S P C D : List ℕ) (q d w : ℕ) → d < length P → getD P d 0 ≡ q → Climb T S P C C D D q d w q d
+climb-start T S P C D q d w h e = record { inside = h; par = e; same = λ v. refl; above = λ v l. refl; still = λ v l. refl; pass = start; wakes = λ v l. l; rose = λ v. as-before refl refl; stop = λ r x. x }
+
+module _ (T S P C₀ C C' D₀ D D' : List ℕ) (q0 d0 w q d : ℕ) (g : Grows T P) (k : Climb T S P C₀ C D₀ D q0 d0 w q d) where
+  pub climb-end : q ≡ right.none → Gained S P C₀ C D₀ D q0 d0 w right.none
   climb-end e = record {
     stop = k .stop right.none (ends e refl);
     same = λ v n. k .same v;
     yes = λ n. absurd (n refl);
+    stood = λ n. absurd (n refl);
     all = λ z v. k .same v;
-    over = subst (λ (o : Option ℕ). Over (parOf P) (stands S C) o d0) (sym (opt-none right.none refl)) (pass-over (λ (v : ℕ). getD T v 0) (ranked T P g) (k .pass) (λ y l. k .same y) (root (no-parent P d (k .inside) (k .par ∙ e)) refl));
+    wakes = k .wakes;
+    rose = k .rose;
+    over = subst (λ (o : Option ℕ). Over (parOf P) (stands S C) o d0) (sym (opt-none right.none refl)) (pass-over (λ y l. k .same y ∙ stands-no S C₀ y l) (k .pass) (root (no-parent P d (k .inside) (k .par ∙ e)) refl));
   }
 
   module _ (hq : q < length P) (hc : length C ≡ length P) (n : q ≡ right.none → ⊥) (ec : C' ≡ set C q (getD C q 0 + 1)) where
@@ -78,27 +77,53 @@ module _ (T S P C₀ C C' : List ℕ) (q0 d0 q d : ℕ) (g : Grows T P) (k : Cli
     older : getD T d 0 < getD T q 0
     older = ranked T P g .grows edge
 
-    pub climb-pass : live S C q ≡ false → Climb T S P C₀ C' q0 d0 (getD P q 0) q
-    climb-pass l = record {
+    awake : (v : ℕ) → live S C₀ v ≡ true → live S C' v ≡ true
+    awake v l = ⊎-elim (λ (e : v ≡ q). ap (live S C') e ∙ rw ec (live-pos S C q (getD C q 0 + 1) (omega arith) (omega arith))) (λ m. rw ec (live-other S C q (getD C q 0 + 1) v m) ∙ k .wakes v l) (eq? v q)
+
+    -- a row that is not q lives as in the columns before
+    beside : (E : List ℕ) (v : ℕ) → (v ≡ q → ⊥) → getD E v 0 ≡ getD D v 0 → Rise (parOf P) (live S C₀) (live S C) D₀ D d0 w v → Rise (parOf P) (live S C₀) (live S C') D₀ E d0 w v
+    beside E v m ed (as-before a b) = as-before (rw ec (live-other S C q (getD C q 0 + 1) v m) ∙ a) (ed ∙ b)
+    beside E v m ed (risen p b) = risen p (ed ∙ b)
+
+    pub climb-pass : length D ≡ length P → D' ≡ set D q w → live S C q ≡ false → Climb T S P C₀ C' D₀ D' q0 d0 w (getD P q 0) q
+    climb-pass hd ed l = record {
       inside = hq;
       par = refl;
       same = λ v. rw ec (stands-pass S C q (omega arith) l v) ∙ k .same v;
-      above = λ v a. rw ec (live-other S C q (getD C q 0 + 1) v (λ e. omega (arith, ap (λ (x : ℕ). getD T x 0) e))) ∙ k .above v (omega (arith, older));
-      pass = next (k .pass) edge (sym (k .same q) ∙ stands-no S C q l);
+      above = λ v a. rw ec (live-other S C q (getD C q 0 + 1) v (apart v a)) ∙ k .above v (omega (arith, older));
+      still = λ v a. at-other v (apart v a) ∙ k .still v (omega (arith, older));
+      pass = way;
+      wakes = awake;
+      rose = λ v. ⊎-elim (λ (e : v ≡ q). subst (λ (x : ℕ). Rise (parOf P) (live S C₀) (live S C') D₀ D' d0 w x) (sym e) (risen way (ap (λ (x : List ℕ). getD x q 0) ed ∙ getD-set-same D q w 0 (omega (arith, hd))))) (λ m. beside D' v m (at-other v m) (k .rose v)) (eq? v q);
       stop = λ r x. k .stop r (over n (sym (k .above q older) ∙ l) x);
     }
+      where
+        apart : (v : ℕ) → getD T q 0 < getD T v 0 → v ≡ q → ⊥
+        apart v a e = omega (arith, ap (λ (x : ℕ). getD T x 0) e)
+
+        at-other : (v : ℕ) → (v ≡ q → ⊥) → getD D' v 0 ≡ getD D v 0
+        at-other v m = ap (λ (x : List ℕ). getD x v 0) ed ∙ getD-set-other D q v w 0 m
+
+        way : Pass (parOf P) (live S C₀) d0 q
+        way = next (k .pass) edge (sym (k .above q older) ∙ l)
 
     other : (v : ℕ) → (v ≡ q → ⊥) → stands S C' v ≡ stands S C₀ v
     other v m = rw ec (stands-other S C q (getD C q 0 + 1) v m) ∙ k .same v
 
-    pub climb-stop : live S C q ≡ true → Gained S P C₀ C' q0 d0 q
+    pub climb-stop : live S C q ≡ true → Gained S P C₀ C' D₀ D q0 d0 w q
     climb-stop l = record {
-      stop = k .stop q (at n (sym (k .above q older) ∙ l) refl);
+      stop = k .stop q (at n lived refl);
       same = other;
       yes = λ m. stood;
+      stood = λ m. more-stood S C C' q (omega arith) ec ∙ k .same q;
       all = λ z. absurd (n z);
-      over = subst (λ (o : Option ℕ). Over (parOf P) (stands S C') o d0) (sym (opt-some q n)) (pass-over (λ (v : ℕ). getD T v 0) (ranked T P g) (k .pass) (λ y a. other y (λ e. omega (arith, older, ap (λ (x : ℕ). getD T x 0) e))) (hit edge stood refl));
+      wakes = awake;
+      rose = λ v. ⊎-elim (λ (e : v ≡ q). subst (λ (x : ℕ). Rise (parOf P) (live S C₀) (live S C') D₀ D d0 w x) (sym e) (as-before (stands-live S C' q stood ∙ sym lived) (k .still q older))) (λ m. beside D v m refl (k .rose v)) (eq? v q);
+      over = subst (λ (o : Option ℕ). Over (parOf P) (stands S C') o d0) (sym (opt-some q n)) (pass-over (λ y a. other y (λ e. clash lived (ap (live S C₀) (sym e) ∙ a)) ∙ stands-no S C₀ y a) (k .pass) (hit edge stood refl));
     }
       where
         stood : stands S C' q ≡ true
         stood = rw ec (stands-stop S C q (omega arith) l)
+
+        lived : live S C₀ q ≡ true
+        lived = sym (k .above q older) ∙ l

@@ -14,7 +14,7 @@ use Rattle.laws.specs.Bools.{eq?}
 use Rattle.mend.specs.Right as right
 use Rattle.mend.specs.Right.{live, stands}
 use Rattle.mend.specs.Line.{Under, Lost}
-use Rattle.mend.proofs.Mending.{live-other}
+use Rattle.mend.proofs.Mending.{live-other, live-count}
 use Rattle.mend.proofs.Reading.{live-cases, dead, stands-sample, stands-two}
 
 module _ (S C C' : List ℕ) (q : ℕ) (hq : q < length C) (pos : 0 < getD C q 0) (ec : C' ≡ set C q (getD C q 0 - 1)) where
@@ -35,9 +35,15 @@ module _ (S C C' : List ℕ) (q : ℕ) (hq : q < length C) (pos : 0 < getD C q 0
   pub fall-was : live S C' q ≡ true → stands S C q ≡ true
   fall-was l = ⊎-elim (λ s. stands-sample S C q s) (λ s. stands-two S C q (omega (arith, one-less))) (live-cases S C' q l)
 
--- a climb from q0 keeps what is younger
-pub fall-under : (T S C₀ C C' : List ℕ) (q0 q x : ℕ) → C' ≡ set C q x → getD T q0 0 ≤ getD T q 0 → Under T S C₀ C q0 → Under T S C₀ C' q0
-fall-under T S C₀ C C' q0 q x ec a h = record { same = λ v l. rw ec (live-other S C q x v (λ e. omega (arith, ap (λ (y : ℕ). getD T y 0) e))) ∙ h .same v l }
+-- a climb from q0 keeps what is younger, and wakes nothing
+pub fall-under : (T S C₀ C C' : List ℕ) (q0 q : ℕ) → 0 < getD C q 0 → C' ≡ set C q (getD C q 0 - 1) → getD T q0 0 ≤ getD T q 0 → Under T S C₀ C q0 → Under T S C₀ C' q0
+fall-under T S C₀ C C' q0 q pos ec a h = record {
+  same = λ v l. beside v (λ e. omega (arith, ap (λ (y : ℕ). getD T y 0) e)) ∙ h .same v l;
+  less = λ v l. h .less v (⊎-elim (λ (e : v ≡ q). ap (live S C) e ∙ live-count S C q pos) (λ m. sym (beside v m) ∙ l) (eq? v q));
+}
+  where
+    beside : (v : ℕ) → (v ≡ q → ⊥) → live S C' v ≡ live S C v
+    beside v m = rw ec (live-other S C q (getD C q 0 - 1) v m)
 
 pub lost-end : (T S P C₀ C : List ℕ) (q0 : ℕ) → ((v : ℕ) → stands S C v ≡ stands S C₀ v) → Under T S C₀ C q0 → Lost T S P C₀ C q0 right.none
 lost-end T S P C₀ C q0 s u = record { same = λ v n. s v; was = λ n. absurd (n refl); all = λ z. s; still = λ n. absurd (n refl); above = λ n. absurd (n refl); under = u }
@@ -49,7 +55,7 @@ lost-stop T S P C₀ C C' q0 q m hq pos ec s hp a u l = record {
   all = λ z. absurd (m z);
   still = λ n. (hp, l);
   above = λ n. a;
-  under = fall-under T S C₀ C C' q0 q (getD C q 0 - 1) ec a u;
+  under = fall-under T S C₀ C C' q0 q pos ec a u;
 }
 
 pub lt-eq : {a b t : ℕ} → a < b → b ≡ t → a < t

@@ -2,7 +2,9 @@
 pub mod Totals
 pub mod Reading
 pub mod Mending
-pub mod Upwards
+pub mod Labelling
+pub mod Lows
+pub mod Turning
 pub mod Only
 pub mod Climbing
 pub mod Falling

@@ -19,16 +19,16 @@ pub record UpOk (S P C U : List ℕ) : Type 0 where
   pub cell : (v : ℕ) → stands S C v ≡ true → Over (parOf P) (stands S C) (opt (getD U v 0)) v
   pub idle : (v : ℕ) → v < length P → stands S C v ≡ false → getD U v 0 ≡ 4294967295
 
--- all columns are right for the parents
-pub record Kept (T S P C M U : List ℕ) : Type 0 where
-  pub mended : Mended T S P C M
-  pub up : UpOk S P C U
+-- the column D holds, at each live row, the standing row at or below it to which the only live children lead
+pub record LowOk (S P C D : List ℕ) : Type 0 where
+  pub long : length D ≡ length P
+  pub cell : (u : ℕ) → live S C u ≡ true → Low (parOf P) (stands S C) (live S C) (getD D u 0) u
 
--- z is low for s where s is a row that does not stand, and none otherwise
-pub data Heir (S P C : List ℕ) (s z : ℕ) : Type 0 where
-  no-row : s ≡ 4294967295 → z ≡ 4294967295 → Heir S P C s z
-  stood : (s ≡ 4294967295 → ⊥) → stands S C s ≡ true → z ≡ 4294967295 → Heir S P C s z
-  below : (s ≡ 4294967295 → ⊥) → stands S C s ≡ false → z < length P → Low (parOf P) (stands S C) (live S C) z s → Heir S P C s z
+-- all columns are right for the parents
+pub record Kept (T S P C M D U : List ℕ) : Type 0 where
+  pub mended : Mended T S P C M
+  pub low : LowOk S P C D
+  pub up : UpOk S P C U
 
 -- an edge from c to p may be put in: c has no parent yet, and p is older
 pub record Enters (T P : List ℕ) (c p : ℕ) : Type 0 where

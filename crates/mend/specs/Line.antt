@@ -7,7 +7,7 @@ use Prim.Native.Nat.{ℕ, _<_, _≤_}
 use lib.Dec.{eqb, ltb}
 use lib.ListN.{length, getD}
 use Rattle.meaning.specs.Forest.{Par}
-use Rattle.mend.specs.Right.{live, stands}
+use Rattle.mend.specs.Right.{live, stands, more}
 
 -- a cell of a column of rows: 4294967295 is none
 unfoldable pub opt : ℕ → Option ℕ
@@ -53,26 +53,38 @@ pub data Stop (P : List ℕ) (L : ℕ → Bool) (r : ℕ) : ℕ → Type 0 where
   at : {q : ℕ} → (q ≡ 4294967295 → ⊥) → L q ≡ true → r ≡ q → Stop P L r q
   over : {q : ℕ} → (q ≡ 4294967295 → ⊥) → L q ≡ false → Stop P L r (getD P q 0) → Stop P L r q
 
+-- v lives as before and D keeps its cell; or v came to live on the way up from d0, and D has w there
+pub data Rise (P : Par) (L₀ L : ℕ → Bool) (D₀ D : List ℕ) (d0 w v : ℕ) : Type 0 where
+  as-before : L v ≡ L₀ v → getD D v 0 ≡ getD D₀ v 0 → Rise P L₀ L D₀ D d0 w v
+  risen : Pass P L₀ d0 v → getD D v 0 ≡ w → Rise P L₀ L D₀ D d0 w v
+
 -- a climb from d0 has passed d and is at q
-pub record Climb (T S P C₀ C : List ℕ) (q0 d0 q d : ℕ) : Type 0 where
+pub record Climb (T S P C₀ C D₀ D : List ℕ) (q0 d0 w q d : ℕ) : Type 0 where
   pub inside : d < length P
   pub par : getD P d 0 ≡ q
   pub same : (v : ℕ) → stands S C v ≡ stands S C₀ v
   pub above : (v : ℕ) → getD T d 0 < getD T v 0 → live S C v ≡ live S C₀ v
-  pub pass : Pass (parOf P) (stands S C₀) d0 d
+  pub still : (v : ℕ) → getD T d 0 < getD T v 0 → getD D v 0 ≡ getD D₀ v 0
+  pub pass : Pass (parOf P) (live S C₀) d0 d
+  pub wakes : (v : ℕ) → live S C₀ v ≡ true → live S C v ≡ true
+  pub rose : (v : ℕ) → Rise (parOf P) (live S C₀) (live S C) D₀ D d0 w v
   pub stop : (r : ℕ) → Stop P (live S C₀) r q → Stop P (live S C₀) r q0
 
 -- what a climb that ended at r leaves
-pub record Gained (S P C₀ C : List ℕ) (q0 d0 r : ℕ) : Type 0 where
+pub record Gained (S P C₀ C D₀ D : List ℕ) (q0 d0 w r : ℕ) : Type 0 where
   pub stop : Stop P (live S C₀) r q0
   pub same : (v : ℕ) → (v ≡ r → ⊥) → stands S C v ≡ stands S C₀ v
   pub yes : (r ≡ 4294967295 → ⊥) → stands S C r ≡ true
+  pub stood : (r ≡ 4294967295 → ⊥) → more S C 2 r ≡ stands S C₀ r
   pub all : r ≡ 4294967295 → (v : ℕ) → stands S C v ≡ stands S C₀ v
+  pub wakes : (v : ℕ) → live S C₀ v ≡ true → live S C v ≡ true
+  pub rose : (v : ℕ) → Rise (parOf P) (live S C₀) (live S C) D₀ D d0 w v
   pub over : Over (parOf P) (stands S C) (opt r) d0
 
--- what is younger than q0 lives as before
+-- what is younger than q0 lives as before, and nothing comes to live
 pub record Under (T S C₀ C : List ℕ) (q0 : ℕ) : Type 0 where
   pub same : (v : ℕ) → getD T v 0 < getD T q0 0 → live S C v ≡ live S C₀ v
+  pub less : (v : ℕ) → live S C v ≡ true → live S C₀ v ≡ true
 
 -- what a climb that takes away and ended at r leaves
 pub record Lost (T S P C₀ C : List ℕ) (q0 r : ℕ) : Type 0 where

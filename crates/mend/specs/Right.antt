@@ -38,6 +38,10 @@ live S C u = or (ltb 0 (getD S u 0)) (ltb 0 (getD C u 0))
 unfoldable pub stands : List ℕ → List ℕ → ℕ → Bool
 stands S C u = or (ltb 0 (getD S u 0)) (ltb 1 (getD C u 0))
 
+-- a sample, or a row with more than n live children
+unfoldable pub more : List ℕ → List ℕ → ℕ → ℕ → Bool
+more S C n u = or (ltb 0 (getD S u 0)) (ltb n (getD C u 0))
+
 -- v is a child of u that is in L
 unfoldable pub feeds : List ℕ → (ℕ → Bool) → ℕ → ℕ → Bool
 feeds P L u v = and (eqb (getD P v 0) u) (L v)

@@ -3,7 +3,7 @@
 use super::NONE;
 ghost use mathlib.Core.Path.{_≡_};
 ghost use Prim.Native.Nat.{_<_};
-ghost use lib.ListN.{length, getD, set};
+ghost use lib.ListN.{length, set};
 ghost use Rattle.mend.specs.Right.{none};
 ghost use Rattle.mend.specs.Listing.{Listed, Noted};
 
@@ -28,7 +28,7 @@ pub fn put_up(
     k + 1
 }
 
-// s comes to stand above w and z, and takes over what was above z.
+// s comes to stand above w and z, and below o.
 pub fn seat(
     up: &mut [u32],
     touched: &mut [u32],
@@ -37,17 +37,17 @@ pub fn seat(
     w: u32,
     z: u32,
     s: u32,
+    o: u32,
 ) -> usize
     requires { ⌜ (w < length (now up)) × (z < length (now up)) × (s < length (now up)) × Listed (length (now up)) k (now touched) (now listed) ⌝ }
-    ensures { λ r. ⌜ (now (up .exit) ≡ set (set (set (now (up .entry)) w s) z s) s (getD (now (up .entry)) z 0)) × Noted (length (now (up .entry))) (now (up .entry)) (now (up .exit)) (now (touched .entry)) (now (listed .entry)) (now (touched .exit)) (now (listed .exit)) k r ⌝ }
+    ensures { λ r. ⌜ (now (up .exit) ≡ set (set (set (now (up .entry)) w s) z s) s o) × Noted (length (now (up .entry))) (now (up .entry)) (now (up .exit)) (now (touched .entry)) (now (listed .entry)) (now (touched .exit)) (now (listed .exit)) k r ⌝ }
 {
-    let o = up[z as usize];
     let a = put_up(up, touched, listed, k, w, s);
     let b = put_up(up, touched, listed, a, z, s);
     put_up(up, touched, listed, b, s, o)
 }
 
-// s ceases to stand: z gets what was above s, and nothing is above w.
+// s ceases to stand: z comes below o, and nothing is above w.
 pub fn cede(
     up: &mut [u32],
     touched: &mut [u32],
@@ -56,11 +56,11 @@ pub fn cede(
     w: u32,
     z: u32,
     s: u32,
+    o: u32,
 ) -> usize
     requires { ⌜ (w < length (now up)) × (z < length (now up)) × (s < length (now up)) × Listed (length (now up)) k (now touched) (now listed) ⌝ }
-    ensures { λ r. ⌜ (now (up .exit) ≡ set (set (set (now (up .entry)) z (getD (now (up .entry)) s 0)) s none) w none) × Noted (length (now (up .entry))) (now (up .entry)) (now (up .exit)) (now (touched .entry)) (now (listed .entry)) (now (touched .exit)) (now (listed .exit)) k r ⌝ }
+    ensures { λ r. ⌜ (now (up .exit) ≡ set (set (set (now (up .entry)) z o) s none) w none) × Noted (length (now (up .entry))) (now (up .entry)) (now (up .exit)) (now (touched .entry)) (now (listed .entry)) (now (touched .exit)) (now (listed .exit)) k r ⌝ }
 {
-    let o = up[s as usize];
     let a = put_up(up, touched, listed, k, z, o);
     let b = put_up(up, touched, listed, a, s, NONE);
     put_up(up, touched, listed, b, w, NONE)

@@ -2,7 +2,7 @@
 ghost use mathlib.Core.Path.{_≡_};
 ghost use Prim.Native.Nat.{ℕ, _<_};
 ghost use lib.ListN.{length};
-ghost use Rattle.mend.specs.Kept.{Mended};
+ghost use Rattle.mend.specs.Kept.{Mended, LowOk};
 ghost use Rattle.placing.specs.Placing.{Taken, Placeable, Placed};
 
 // How far the mutations are placed, and how many of them move.
@@ -34,6 +34,7 @@ pub fn place(
     par: &[u32],
     count: &[u32],
     sum: &[u32],
+    low: &[u32],
     position: &[u32],
     site: &[u32],
     node: &[u32],
@@ -43,7 +44,7 @@ pub fn place(
     k0: usize,
     next: u32,
 ) -> Marks
-    requires { ⌜ Mended (now time) (now sample) (now par) (now count) (now sum) × Placeable (now position) (now site) (now node) (record { row = now mrow; low = now mlow; count = k0 }) (length (now par)) m0 ⌝ }
+    requires { ⌜ Mended (now time) (now sample) (now par) (now count) (now sum) × LowOk (now sample) (now par) (now count) (now low) × Placeable (now position) (now site) (now node) (record { row = now mrow; low = now mlow; count = k0 }) (length (now par)) m0 ⌝ }
     ensures { λ r. ⌜ Placed (now (sample .entry)) (now (par .entry)) (now (position .entry)) (now (site .entry)) (now (node .entry)) next (record { row = now (mrow .entry); low = now (mlow .entry); count = k0 }) m0 (record { row = now (mrow .exit); low = now (mlow .exit); count = r .kept }) (r .placed) ⌝ }
 {
     let mut m = m0;
@@ -53,7 +54,7 @@ pub fn place(
         if next <= position[s as usize] {
             return Marks { placed: m, kept: k };
         }
-        let w = tree::low_at(time, sample, par, count, sum, node[m]);
+        let w = tree::low_at(time, sample, par, count, sum, low, node[m]);
         k = keep(mrow, mlow, k, m as u32, w);
         m += 1;
     }

@@ -25,7 +25,7 @@ use Rattle.sweep.proofs.Inside.{up-cell, low-cell}
 use Rattle.sweep.proofs.Stepping.{position-rises}
 
 module _ {L : ℕ} {I : Input} {X K X' K' K'' : List ℕ} {x k next : ℕ} {Z : State} (Z' : State) (st : Steady L I (length X) K x Z) (below : x < L)
-    (sw : tree.Swept (I .time) (I .sample) (Z' .parents) (Z' .counts) (Z' .sums) (Z' .ups) (I .left) (I .right) (I .parent) (I .child) (I .by-left) (I .by-right) (Z' .begun) (Z' .ended) (x + 1))
+    (sw : tree.Swept (I .time) (I .sample) (Z' .parents) (Z' .counts) (Z' .sums) (Z' .lows) (Z' .ups) (I .left) (I .right) (I .parent) (I .child) (I .by-left) (I .by-right) (Z' .begun) (Z' .ended) (x + 1))
     (ta : (Q : List ℕ) → Flags (I .sample) Q (length (Z' .parents)) → TreeAt (edgesIn I) Q (length (Z' .parents)) x (I .sample) (Z' .parents) (Z' .counts) (Z' .ups))
     (nt : Noted (length (Z .ups)) (Z .ups) (Z' .ups) X K X' K' 0 k)
     (cs : ChangeSettled x (Z' .ups) X' k (Z .runs) (Z .store) (Z' .runs) (Z' .store))

@@ -32,7 +32,7 @@ no-over P r e (root q o) = ⊎-elim (λ (z : r ≡ no-row). z) (λ (z : r ≡ no
 no-over P r e (hit q k o) = absurd (none-some e q)
 no-over P r e (on q k o) = absurd (none-some e q)
 
-bare : {T S P C M U l r pa ch bl br : List ℕ} {y : ℕ} → tree.Swept T S P C M U l r pa ch bl br 0 0 y → (c : ℕ) → c < length P → getD U c 0 ≡ no-row
+bare : {T S P C M D U l r pa ch bl br : List ℕ} {y : ℕ} → tree.Swept T S P C M D U l r pa ch bl br 0 0 y → (c : ℕ) → c < length P → getD U c 0 ≡ no-row
 unfolding seen
 bare {S = S} {P} {C} {U = U} {bl = bl} {br} sw c l = go (stands S C c) refl
   where
@@ -55,7 +55,7 @@ room-cleared n D D' r a b c d e = record {
 }
 
 module _ {L : ℕ} {I : Input} {t : ℕ} {K₀ K : List ℕ} {A : State} (Z : State) (ask : Asked L I t K₀ A)
-    (sw : (l r pa ch bl br : List ℕ) → Plan (I .time) l r pa ch bl br (length (Z .parents)) → tree.Swept (I .time) (I .sample) (Z .parents) (Z .counts) (Z .sums) (Z .ups) l r pa ch bl br 0 0 0)
+    (sw : (l r pa ch bl br : List ℕ) → Plan (I .time) l r pa ch bl br (length (Z .parents)) → tree.Swept (I .time) (I .sample) (Z .parents) (Z .counts) (Z .sums) (Z .lows) (Z .ups) l r pa ch bl br 0 0 0)
     (long : length (Z .parents) ≡ length (A .parents))
     (lefts : Filled (Z .runs .left) (length (A .runs .left)) 0)
     (pars : Filled (Z .runs .par) (length (A .runs .par)) no-row)
@@ -68,7 +68,7 @@ module _ {L : ℕ} {I : Input} {t : ℕ} {K₀ K : List ℕ} {A : State} (Z : St
   abbrev n : ℕ
   n = length (I .time)
 
-  start : tree.Swept (I .time) (I .sample) (Z .parents) (Z .counts) (Z .sums) (Z .ups) (I .left) (I .right) (I .parent) (I .child) (I .by-left) (I .by-right) 0 0 0
+  start : tree.Swept (I .time) (I .sample) (Z .parents) (Z .counts) (Z .sums) (Z .lows) (Z .ups) (I .left) (I .right) (I .parent) (I .child) (I .by-left) (I .by-right) 0 0 0
   start = sw (I .left) (I .right) (I .parent) (I .child) (I .by-left) (I .by-right) (plan-on (long ∙ sym (ask .shape .times)) (ask .plan))
 
   none-open : (c : ℕ) → c < n → at (Z .runs .par) c ≡ no-row

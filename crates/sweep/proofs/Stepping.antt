@@ -30,8 +30,8 @@ over-row P g (root e q) p h = absurd (none-some q h)
 over-row P {v = v} g (hit {p = a} e k q) p h = let r : _ = par-of P v a e in let z : a ≡ p = some-inj q h in omega (arith, g v (r .0) (r .2), r .1)
 over-row P g (on e k w) p h = over-row P g w p h
 
-pub up-rows : {T S P C M U : List ℕ} → Kept T S P C M U → (c : ℕ) → c < length P → Named (length P) (getD U c 0)
-up-rows {T} {S} {P} {C} {M} {U} k c l n = go (stands S C c) refl
+pub up-rows : {T S P C M D U : List ℕ} → Kept T S P C M D U → (c : ℕ) → c < length P → Named (length P) (getD U c 0)
+up-rows {T} {S} {P} {C} {M} {D} {U} k c l n = go (stands S C c) refl
   where
     go : (t : Bool) → stands S C c ≡ t → getD U c 0 < length P
     go true e = over-row P (k .mended .grows .inside) (k .up .cell c e) (getD U c 0) (opt-some (getD U c 0) n)
@@ -57,7 +57,7 @@ module _ {L : ℕ} {I : Input} {t : ℕ} {K : List ℕ} {x : ℕ} {Z : State} (s
   pub advance-ready : {X : List ℕ} → t ≡ length X → Listed (length (Z .ups)) 0 X K
   advance-ready {X} e = rw ups-before (listed-start (length (I .time)) X K (omega (arith, st .listed)) (st .marks-long) (st .bare))
 
-  module _ {P C M U : List ℕ} {i j : ℕ} (sw : tree.Swept (I .time) (I .sample) P C M U (I .left) (I .right) (I .parent) (I .child) (I .by-left) (I .by-right) i j (x + 1)) where
+  module _ {P C M D U : List ℕ} {i j : ℕ} (sw : tree.Swept (I .time) (I .sample) P C M D U (I .left) (I .right) (I .parent) (I .child) (I .by-left) (I .by-right) i j (x + 1)) where
     long : length (I .time) ≡ length P
     long = sw .kept .mended .shape .times
 

@@ -30,6 +30,7 @@ pub record State : Type 0 where
   pub parents : List ℕ
   pub counts : List ℕ
   pub sums : List ℕ
+  pub lows : List ℕ
   pub ups : List ℕ
   pub runs : OpenRuns
   pub store : Store

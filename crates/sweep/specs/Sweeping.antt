@@ -16,6 +16,7 @@ use Rattle.sweep.specs.Columns.{Input, State, upIn, positionOf, lowCell,
 -- the edges are those that the rules 5 and 7 pass, in both orders; sites and mutations those that 8 and 9 pass; every column is long enough
 pub record Asked (L : ℕ) (I : Input) (touched : ℕ) (marks : List ℕ) (Z : State) : Type 0 where
   pub shape : Shape (I .time) (I .sample) (Z .parents) (Z .counts) (Z .sums)
+  pub lows-long : length (Z .lows) ≡ length (Z .parents)
   pub ups-long : length (Z .ups) ≡ length (Z .parents)
   pub plan : Plan (I .time) (I .left) (I .right) (I .parent) (I .child) (I .by-left) (I .by-right) (length (I .time))
   pub sites : Sited L I
@@ -29,7 +30,7 @@ pub record Asked (L : ℕ) (I : Input) (touched : ℕ) (marks : List ℕ) (Z : S
 
 -- the columns at x: the tree is that of the change before, no row has a mark, and the mutations still to be placed lie at x or past it
 pub record Steady (L : ℕ) (I : Input) (touched : ℕ) (marks : List ℕ) (x : ℕ) (Z : State) : Type 0 where
-  pub tree : tree.Swept (I .time) (I .sample) (Z .parents) (Z .counts) (Z .sums) (Z .ups) (I .left) (I .right) (I .parent) (I .child) (I .by-left) (I .by-right) (Z .begun) (Z .ended) x
+  pub tree : tree.Swept (I .time) (I .sample) (Z .parents) (Z .counts) (Z .sums) (Z .lows) (Z .ups) (I .left) (I .right) (I .parent) (I .child) (I .by-left) (I .by-right) (Z .begun) (Z .ended) x
   pub sites : Sited L I
   pub listed : length (I .time) ≤ touched
   pub marks-long : length marks ≡ length (I .time)

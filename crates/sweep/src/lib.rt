@@ -65,6 +65,7 @@ fn step(
     par: &mut [u32],
     count: &mut [u32],
     sum: &mut [u32],
+    low: &mut [u32],
     up: &mut [u32],
     touched: &mut [u32],
     listed: &mut [u8],
@@ -79,8 +80,8 @@ fn step(
     mlow: &mut [u32],
     from: Reach,
 ) -> Reach
-    requires { ⌜ Steady len (record { time = now time; sample = now sample; left = now left; right = now right; parent = now parent; child = now child; by-left = now bl; by-right = now br; position = now position; site = now site; node = now node }) (length (now touched)) (now listed) (from .next) (record { parents = now par; counts = now count; sums = now sum; ups = now up; runs = record { left = now open_left; par = now open_par }; store = record { left = now fl; right = now fr; parent = now fp; child = now fc; stood = now stood; count = from .made }; moves = record { row = now mrow; low = now mlow; count = from .kept }; begun = from .begun; ended = from .ended; placed = from .placed }) × (from .next < len) ⌝ }
-    ensures { λ r. ⌜ Came len (record { time = now (time .entry); sample = now (sample .entry); left = now (left .entry); right = now (right .entry); parent = now (parent .entry); child = now (child .entry); by-left = now (bl .entry); by-right = now (br .entry); position = now (position .entry); site = now (site .entry); node = now (node .entry) }) (length (now (touched .entry))) (now (listed .entry)) (from .next) (record { parents = now (par .entry); counts = now (count .entry); sums = now (sum .entry); ups = now (up .entry); runs = record { left = now (open_left .entry); par = now (open_par .entry) }; store = record { left = now (fl .entry); right = now (fr .entry); parent = now (fp .entry); child = now (fc .entry); stood = now (stood .entry); count = from .made }; moves = record { row = now (mrow .entry); low = now (mlow .entry); count = from .kept }; begun = from .begun; ended = from .ended; placed = from .placed }) (now (listed .exit)) (r .next) (record { parents = now (par .exit); counts = now (count .exit); sums = now (sum .exit); ups = now (up .exit); runs = record { left = now (open_left .exit); par = now (open_par .exit) }; store = record { left = now (fl .exit); right = now (fr .exit); parent = now (fp .exit); child = now (fc .exit); stood = now (stood .exit); count = r .made }; moves = record { row = now (mrow .exit); low = now (mlow .exit); count = r .kept }; begun = r .begun; ended = r .ended; placed = r .placed }) × (from .next < r .next) ⌝ }
+    requires { ⌜ Steady len (record { time = now time; sample = now sample; left = now left; right = now right; parent = now parent; child = now child; by-left = now bl; by-right = now br; position = now position; site = now site; node = now node }) (length (now touched)) (now listed) (from .next) (record { parents = now par; counts = now count; sums = now sum; lows = now low; ups = now up; runs = record { left = now open_left; par = now open_par }; store = record { left = now fl; right = now fr; parent = now fp; child = now fc; stood = now stood; count = from .made }; moves = record { row = now mrow; low = now mlow; count = from .kept }; begun = from .begun; ended = from .ended; placed = from .placed }) × (from .next < len) ⌝ }
+    ensures { λ r. ⌜ Came len (record { time = now (time .entry); sample = now (sample .entry); left = now (left .entry); right = now (right .entry); parent = now (parent .entry); child = now (child .entry); by-left = now (bl .entry); by-right = now (br .entry); position = now (position .entry); site = now (site .entry); node = now (node .entry) }) (length (now (touched .entry))) (now (listed .entry)) (from .next) (record { parents = now (par .entry); counts = now (count .entry); sums = now (sum .entry); lows = now (low .entry); ups = now (up .entry); runs = record { left = now (open_left .entry); par = now (open_par .entry) }; store = record { left = now (fl .entry); right = now (fr .entry); parent = now (fp .entry); child = now (fc .entry); stood = now (stood .entry); count = from .made }; moves = record { row = now (mrow .entry); low = now (mlow .entry); count = from .kept }; begun = from .begun; ended = from .ended; placed = from .placed }) (now (listed .exit)) (r .next) (record { parents = now (par .exit); counts = now (count .exit); sums = now (sum .exit); lows = now (low .exit); ups = now (up .exit); runs = record { left = now (open_left .exit); par = now (open_par .exit) }; store = record { left = now (fl .exit); right = now (fr .exit); parent = now (fp .exit); child = now (fc .exit); stood = now (stood .exit); count = r .made }; moves = record { row = now (mrow .exit); low = now (mlow .exit); count = r .kept }; begun = r .begun; ended = r .ended; placed = r .placed }) × (from .next < r .next) ⌝ }
 {
     let x = from.next;
     let c = tree::advance(
@@ -89,6 +90,7 @@ fn step(
         par,
         count,
         sum,
+        low,
         up,
         touched,
         listed,
@@ -127,6 +129,7 @@ fn step(
         par,
         count,
         sum,
+        low,
         position,
         site,
         node,
@@ -163,6 +166,7 @@ fn walk(
     par: &mut [u32],
     count: &mut [u32],
     sum: &mut [u32],
+    low: &mut [u32],
     up: &mut [u32],
     touched: &mut [u32],
     listed: &mut [u8],
@@ -176,8 +180,8 @@ fn walk(
     mrow: &mut [u32],
     mlow: &mut [u32],
 ) -> Tally
-    requires { ⌜ Steady len (record { time = now time; sample = now sample; left = now left; right = now right; parent = now parent; child = now child; by-left = now bl; by-right = now br; position = now position; site = now site; node = now node }) (length (now touched)) (now listed) 0 (record { parents = now par; counts = now count; sums = now sum; ups = now up; runs = record { left = now open_left; par = now open_par }; store = record { left = now fl; right = now fr; parent = now fp; child = now fc; stood = now stood; count = 0 }; moves = record { row = now mrow; low = now mlow; count = 0 }; begun = 0; ended = 0; placed = 0 }) ⌝ }
-    ensures { λ r. ⌜ ((Q : List ℕ) → Flags (now (sample .entry)) Q (length (now (time .entry))) → (F : List Edge) → Going len (record { time = now (time .entry); sample = now (sample .entry); left = now (left .entry); right = now (right .entry); parent = now (parent .entry); child = now (child .entry); by-left = now (bl .entry); by-right = now (br .entry); position = now (position .entry); site = now (site .entry); node = now (node .entry) }) 0 Q F (record { parents = now (par .entry); counts = now (count .entry); sums = now (sum .entry); ups = now (up .entry); runs = record { left = now (open_left .entry); par = now (open_par .entry) }; store = record { left = now (fl .entry); right = now (fr .entry); parent = now (fp .entry); child = now (fc .entry); stood = now (stood .entry); count = 0 }; moves = record { row = now (mrow .entry); low = now (mlow .entry); count = 0 }; begun = 0; ended = 0; placed = 0 }) → Done len (record { time = now (time .entry); sample = now (sample .entry); left = now (left .entry); right = now (right .entry); parent = now (parent .entry); child = now (child .entry); by-left = now (bl .entry); by-right = now (br .entry); position = now (position .entry); site = now (site .entry); node = now (node .entry) }) Q (record { left = now (fl .entry); right = now (fr .entry); parent = now (fp .entry); child = now (fc .entry); stood = now (stood .entry); count = 0 }) (record { row = now (mrow .entry); low = now (mlow .entry); count = 0 }) (record { left = now (fl .exit); right = now (fr .exit); parent = now (fp .exit); child = now (fc .exit); stood = now (stood .exit); count = r .edges }) (record { row = now (mrow .exit); low = now (mlow .exit); count = r .mutations })) ⌝ }
+    requires { ⌜ Steady len (record { time = now time; sample = now sample; left = now left; right = now right; parent = now parent; child = now child; by-left = now bl; by-right = now br; position = now position; site = now site; node = now node }) (length (now touched)) (now listed) 0 (record { parents = now par; counts = now count; sums = now sum; lows = now low; ups = now up; runs = record { left = now open_left; par = now open_par }; store = record { left = now fl; right = now fr; parent = now fp; child = now fc; stood = now stood; count = 0 }; moves = record { row = now mrow; low = now mlow; count = 0 }; begun = 0; ended = 0; placed = 0 }) ⌝ }
+    ensures { λ r. ⌜ ((Q : List ℕ) → Flags (now (sample .entry)) Q (length (now (time .entry))) → (F : List Edge) → Going len (record { time = now (time .entry); sample = now (sample .entry); left = now (left .entry); right = now (right .entry); parent = now (parent .entry); child = now (child .entry); by-left = now (bl .entry); by-right = now (br .entry); position = now (position .entry); site = now (site .entry); node = now (node .entry) }) 0 Q F (record { parents = now (par .entry); counts = now (count .entry); sums = now (sum .entry); lows = now (low .entry); ups = now (up .entry); runs = record { left = now (open_left .entry); par = now (open_par .entry) }; store = record { left = now (fl .entry); right = now (fr .entry); parent = now (fp .entry); child = now (fc .entry); stood = now (stood .entry); count = 0 }; moves = record { row = now (mrow .entry); low = now (mlow .entry); count = 0 }; begun = 0; ended = 0; placed = 0 }) → Done len (record { time = now (time .entry); sample = now (sample .entry); left = now (left .entry); right = now (right .entry); parent = now (parent .entry); child = now (child .entry); by-left = now (bl .entry); by-right = now (br .entry); position = now (position .entry); site = now (site .entry); node = now (node .entry) }) Q (record { left = now (fl .entry); right = now (fr .entry); parent = now (fp .entry); child = now (fc .entry); stood = now (stood .entry); count = 0 }) (record { row = now (mrow .entry); low = now (mlow .entry); count = 0 }) (record { left = now (fl .exit); right = now (fr .exit); parent = now (fp .exit); child = now (fc .exit); stood = now (stood .exit); count = r .edges }) (record { row = now (mrow .exit); low = now (mlow .exit); count = r .mutations })) ⌝ }
 {
     let mut at = Reach {
         begun: 0,
@@ -188,7 +192,7 @@ fn walk(
         next: 0,
     };
     while at.next < len {
-        at = step(
+        let reached = step(
             len,
             time,
             sample,
@@ -204,6 +208,7 @@ fn walk(
             par,
             count,
             sum,
+            low,
             up,
             touched,
             listed,
@@ -218,6 +223,7 @@ fn walk(
             mlow,
             at,
         );
+        at = reached;
     }
     let edges = runs::close(len, open_left, open_par, fl, fr, fp, fc, stood, at.made);
     Tally {
@@ -244,6 +250,7 @@ pub fn sweep(
     par: &mut [u32],
     count: &mut [u32],
     sum: &mut [u32],
+    low: &mut [u32],
     up: &mut [u32],
     touched: &mut [u32],
     listed: &mut [u8],
@@ -257,10 +264,10 @@ pub fn sweep(
     mrow: &mut [u32],
     mlow: &mut [u32],
 ) -> Tally
-    requires { ⌜ Asked len (record { time = now time; sample = now sample; left = now left; right = now right; parent = now parent; child = now child; by-left = now bl; by-right = now br; position = now position; site = now site; node = now node }) (length (now touched)) (now listed) (record { parents = now par; counts = now count; sums = now sum; ups = now up; runs = record { left = now open_left; par = now open_par }; store = record { left = now fl; right = now fr; parent = now fp; child = now fc; stood = now stood; count = 0 }; moves = record { row = now mrow; low = now mlow; count = 0 }; begun = 0; ended = 0; placed = 0 }) ⌝ }
+    requires { ⌜ Asked len (record { time = now time; sample = now sample; left = now left; right = now right; parent = now parent; child = now child; by-left = now bl; by-right = now br; position = now position; site = now site; node = now node }) (length (now touched)) (now listed) (record { parents = now par; counts = now count; sums = now sum; lows = now low; ups = now up; runs = record { left = now open_left; par = now open_par }; store = record { left = now fl; right = now fr; parent = now fp; child = now fc; stood = now stood; count = 0 }; moves = record { row = now mrow; low = now mlow; count = 0 }; begun = 0; ended = 0; placed = 0 }) ⌝ }
     ensures { λ r. ⌜ ((Q : List ℕ) → Flags (now (sample .entry)) Q (length (now (time .entry))) → Done len (record { time = now (time .entry); sample = now (sample .entry); left = now (left .entry); right = now (right .entry); parent = now (parent .entry); child = now (child .entry); by-left = now (bl .entry); by-right = now (br .entry); position = now (position .entry); site = now (site .entry); node = now (node .entry) }) Q (record { left = now (fl .entry); right = now (fr .entry); parent = now (fp .entry); child = now (fc .entry); stood = now (stood .entry); count = 0 }) (record { row = now (mrow .entry); low = now (mlow .entry); count = 0 }) (record { left = now (fl .exit); right = now (fr .exit); parent = now (fp .exit); child = now (fc .exit); stood = now (stood .exit); count = r .edges }) (record { row = now (mrow .exit); low = now (mlow .exit); count = r .mutations })) ⌝ }
 {
-    tree::start(time, sample, par, count, sum, up);
+    tree::start(time, sample, par, count, sum, low, up);
     fill(open_left, 0);
     fill(open_par, tree::NONE);
     clear(listed);
@@ -281,6 +288,7 @@ pub fn sweep(
         par,
         count,
         sum,
+        low,
         up,
         touched,
         listed,

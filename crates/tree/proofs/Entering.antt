@@ -12,13 +12,10 @@ use Rattle.laws.specs.Bools.{clash, eq?}
 use Rattle.mend.specs.Right as right
 use Rattle.mend.specs.Right.{live, stands, Grows}
 use Rattle.mend.specs.Line.{parOf, opt, Low, here, down, Over, Edge, Lives, Stop, ends, at, over, Gained}
-use Rattle.mend.specs.Kept.{Mended, UpOk, Kept, Enters, Heir}
+use Rattle.mend.specs.Kept.{Mended, UpOk, Kept, Enters}
 use Rattle.mend.proofs.Reading.{of-par, no-parent, par-off, ranked, opt-some, stands-live}
 use Rattle.mend.proofs.Only.{lives}
 use Rattle.tree.proofs.Up.{low-stands, insert-stand, insert-same, keep}
-use Rattle.tree.proofs.OneEdge.{mended-dead}
-use Rattle.tree.proofs.Inheriting.{heir-calm, heir-below}
-use Rattle.mend.proofs.Climbing.{stop-one, stop-edge}
 
 -- a climb stops at no younger row than it starts from
 stop-rank : (T P : List ℕ) (L : ℕ → Bool) (s q : ℕ) → Grows T P → (s ≡ right.none → ⊥) → ((q ≡ right.none → ⊥) → q < length P) → Stop P L s q → getD T q 0 ≤ getD T s 0
@@ -36,23 +33,35 @@ stop-rank T P L s q g n h (over m l z) = go (eq? (getD P q 0) right.none) (stop-
     go (inr e) ih = omega (arith, g .age q (h m) e)
 
 -- where it stops there is a live row
-pub stop-live : (T P : List ℕ) (L : ℕ → Bool) (s q : ℕ) → Grows T P → (s ≡ right.none → ⊥) → ((q ≡ right.none → ⊥) → q < length P) → Stop P L s q → (s < length P) × (L s ≡ true)
+stop-live : (T P : List ℕ) (L : ℕ → Bool) (s q : ℕ) → Grows T P → (s ≡ right.none → ⊥) → ((q ≡ right.none → ⊥) → q < length P) → Stop P L s q → (s < length P) × (L s ≡ true)
 stop-live T P L s q g n h (ends e z) = absurd (n z)
 stop-live T P L s q g n h (at m l z) = subst (λ (x : ℕ). (x < length P) × (L x ≡ true)) (sym z) (h m, l)
 stop-live T P L s q g n h (over m l z) = stop-live T P L s (getD P q 0) g n (g .inside q (h m)) z
 
--- c, which lives, is to get the parent p; s is the first live row at or above p, and w is low for c
-pub record Entry (T S P C M U : List ℕ) (c p s w : ℕ) : Type 0 where
-  pub kept : Kept T S P C M U
+-- c, which lives and leads down to w, has got the parent p, and the climb that mends ended at s
+pub record Entry (T S P C M D U C' M' D₁ : List ℕ) (c p s w : ℕ) : Type 0 where
+  pub kept : Kept T S P C M D U
   pub enters : Enters T P c p
   pub lives : live S C c ≡ true
-  pub stop : Stop P (live S C) s p
+  pub mended : Mended T S (set P c p) C' M'
+  pub gained : Gained S (set P c p) C C' D D₁ p c w s
   pub w-in : w < length P
   pub w-low : Low (parOf P) (stands S C) (live S C) w c
 
-module _ {T S P C M U C' : List ℕ} {c p s w r : ℕ} (en : Entry T S P C M U c p s w) (gd : Gained S (set P c p) C C' p c r) where
-  rs : r ≡ s
-  rs = stop-one (gd .stop) (stop-edge P (live S C) c p s p (en .lives) (en .stop))
+module _ {T S P C M D U C' M' D₁ : List ℕ} {c p s w : ℕ} (en : Entry T S P C M D U C' M' D₁ c p s w) where
+  -- where the climb ended at a row, it is a live one, older than c
+  module _ (row : s ≡ right.none → ⊥) where
+    stopped : (s < length (set P c p)) × (live S C s ≡ true)
+    stopped = stop-live T (set P c p) (live S C) s p (en .mended .grows) row (λ n. omega (arith, en .enters .parent, length-set P c p)) (en .gained .stop)
+
+    pub s-in : s < length P
+    s-in = omega (arith, stopped .0, length-set P c p)
+
+    pub s-lived : live S C s ≡ true
+    s-lived = stopped .1
+
+    pub s-older : getD T c 0 < getD T s 0
+    s-older = omega (arith, en .enters .older, stop-rank T (set P c p) (live S C) s p (en .mended .grows) row (λ n. omega (arith, en .enters .parent, length-set P c p)) (en .gained .stop))
 
   edge : (q : ℕ) → ((v : ℕ) → (v ≡ q → ⊥) → stands S C' v ≡ stands S C v) → (stands S C q ≡ true → stands S C' q ≡ true) → Edge (parOf P) (parOf (set P c p)) (stands S C) (stands S C') c p q
   edge q same more = record {
@@ -71,26 +80,26 @@ module _ {T S P C M U C' : List ℕ} {c p s w r : ℕ} (en : Entry T S P C M U c
 
   -- s stands already, or is none: only w changes
   module _ (calm : (s ≡ right.none → ⊥) → stands S C s ≡ true) where
-    steady : (v : ℕ) → stands S C' v ≡ stands S C v
-    steady v = ⊎-elim (λ z. gd .all z v) (λ n. ⊎-elim (λ q. ap (stands S C') q ∙ gd .yes n ∙ sym (ap (stands S C) (q ∙ rs) ∙ calm (λ y. n (rs ∙ y)))) (λ m. gd .same v m) (eq? v r)) (eq? r right.none)
+    pub steady : (v : ℕ) → stands S C' v ≡ stands S C v
+    steady v = ⊎-elim (λ z. en .gained .all z v) (λ n. ⊎-elim (λ q. ap (stands S C') q ∙ en .gained .yes n ∙ sym (ap (stands S C) q ∙ calm n)) (λ m. en .gained .same v m) (eq? v s)) (eq? s right.none)
 
     pub same-up : UpOk S (set P c p) C' (set U w s)
     same-up = record {
       long = length-set U w s ∙ en .kept .up .long ∙ sym (length-set P c p);
       cell = insert-same (edge c (λ v n. steady v) (λ k. steady c ∙ k)) lv (λ (v : ℕ). getD T v 0) (ranked T P (en .kept .mended .grows)) (en .enters .older) (stands-live S C) (λ (v : ℕ). opt (getD U v 0)) (λ (v : ℕ). opt (getD (set U w s) v 0)) (en .kept .up .cell) steady refl (en .w-low)
-          (subst (λ (x : ℕ). Over (parOf (set P c p)) (stands S C') (opt x) c) rs (gd .over))
+          (en .gained .over)
           (ap opt (getD-set-same U w s 0 (omega (arith, en .w-in, en .kept .up .long))))
           (λ v a. ap opt (getD-set-other U w v s 0 a));
       idle = λ v l n. getD-set-other U w v s 0 (λ e. clash (steady w ∙ low-stands (en .w-low)) (ap (stands S C') (sym e) ∙ n)) ∙ en .kept .up .idle v (omega (arith, l, length-set P c p)) (sym (steady v) ∙ n);
     }
 
-  -- s comes to stand, above w and z
-  module _ {z : ℕ} (row : s ≡ right.none → ⊥) (new : stands S C s ≡ false) (z-in : z < length P) (z-low : Low (parOf P) (stands S C) (live S C) z s) where
+  -- s comes to stand, above w and z and below o
+  module _ {z : ℕ} (o : ℕ) (row : s ≡ right.none → ⊥) (new : stands S C s ≡ false) (z-in : z < length P) (z-low : Low (parOf P) (stands S C) (live S C) z s) (o-over : Over (parOf (set P c p)) (stands S C') (opt o) s) where
     stood : stands S C' s ≡ true
-    stood = ap (stands S C') (sym rs) ∙ gd .yes (λ y. row (sym rs ∙ y))
+    stood = en .gained .yes row
 
     other : (v : ℕ) → (v ≡ s → ⊥) → stands S C' v ≡ stands S C v
-    other v n = gd .same v (λ y. n (y ∙ rs))
+    other v n = en .gained .same v n
 
     w-s : w ≡ s → ⊥
     w-s y = clash (low-stands (en .w-low)) (ap (stands S C) y ∙ new)
@@ -108,21 +117,18 @@ module _ {T S P C M U C' : List ℕ} {c p s w r : ℕ} (en : Entry T S P C M U c
     w-cell (inl y) = ap (λ (x : ℕ). getD (set (set U w s) z s) x 0) y ∙ z-cell
     w-cell (inr y) = getD-set-other (set U w s) z w s 0 y ∙ getD-set-same U w s 0 (omega (arith, en .w-in, en .kept .up .long))
 
-    rest : (v : ℕ) → (v ≡ w → ⊥) → (v ≡ z → ⊥) → (v ≡ s → ⊥) → getD (set (set (set U w s) z s) s (getD U z 0)) v 0 ≡ getD U v 0
-    rest v a b d = getD-set-other (set (set U w s) z s) s v (getD U z 0) 0 d ∙ getD-set-other (set U w s) z v s 0 b ∙ getD-set-other U w v s 0 a
+    rest : (v : ℕ) → (v ≡ w → ⊥) → (v ≡ z → ⊥) → (v ≡ s → ⊥) → getD (set (set (set U w s) z s) s o) v 0 ≡ getD U v 0
+    rest v a b d = getD-set-other (set (set U w s) z s) s v o 0 d ∙ getD-set-other (set U w s) z v s 0 b ∙ getD-set-other U w v s 0 a
 
-    here-s : s < length P
-    here-s = stop-live T P (live S C) s p (en .kept .mended .grows) row (λ n. en .enters .parent) (en .stop) .0
-
-    pub stand-up : UpOk S (set P c p) C' (set (set (set U w s) z s) s (getD U z 0))
+    pub stand-up : UpOk S (set P c p) C' (set (set (set U w s) z s) s o)
     stand-up = record {
-      long = length-set (set (set U w s) z s) s (getD U z 0) ∙ long-2 ∙ sym (length-set P c p);
-      cell = insert-stand (edge s other (λ k. stood)) lv (λ (v : ℕ). getD T v 0) (ranked T P (en .kept .mended .grows)) (en .enters .older) (stands-live S C) (λ (v : ℕ). opt (getD U v 0)) (λ (v : ℕ). opt (getD (set (set (set U w s) z s) s (getD U z 0)) v 0)) (en .kept .up .cell)
-          (omega (arith, en .enters .older, stop-rank T P (live S C) s p (en .kept .mended .grows) row (λ n. en .enters .parent) (en .stop))) new stood (en .w-low) z-low
-          (subst (λ (o : Option ℕ). Over (parOf (set P c p)) (stands S C') o c) (ap opt rs ∙ opt-some s row) (gd .over))
-          (ap opt (getD-set-other (set (set U w s) z s) s w (getD U z 0) 0 w-s ∙ w-cell (eq? w z)) ∙ opt-some s row)
-          (ap opt (getD-set-other (set (set U w s) z s) s z (getD U z 0) 0 z-s ∙ z-cell) ∙ opt-some s row)
-          (ap opt (getD-set-same (set (set U w s) z s) s (getD U z 0) 0 (omega (arith, here-s, long-2))))
+      long = length-set (set (set U w s) z s) s o ∙ long-2 ∙ sym (length-set P c p);
+      cell = insert-stand (edge s other (λ k. stood)) lv (λ (v : ℕ). getD T v 0) (ranked T P (en .kept .mended .grows)) (en .enters .older) (stands-live S C) (λ (v : ℕ). opt (getD U v 0)) (λ (v : ℕ). opt (getD (set (set (set U w s) z s) s o) v 0)) (en .kept .up .cell)
+          (s-older row) new stood (en .w-low) z-low
+          (subst (λ (o : Option ℕ). Over (parOf (set P c p)) (stands S C') o c) (opt-some s row) (en .gained .over))
+          (ap opt (getD-set-other (set (set U w s) z s) s w o 0 w-s ∙ w-cell (eq? w z)) ∙ opt-some s row)
+          (ap opt (getD-set-other (set (set U w s) z s) s z o 0 z-s ∙ z-cell) ∙ opt-some s row)
+          (subst (λ (x : ℕ). Over (parOf (set P c p)) (stands S C') (opt x) s) (sym (getD-set-same (set (set U w s) z s) s o 0 (omega (arith, s-in row, long-2)))) o-over)
           (λ v a b d. ap opt (rest v a b d));
       idle = λ v l n. rest v (not-up v n w (low-stands (en .w-low)) w-s) (not-up v n z (low-stands z-low) z-s) (off v n) ∙ en .kept .up .idle v (omega (arith, l, length-set P c p)) (sym (other v (off v n)) ∙ n);
     }
@@ -134,8 +140,8 @@ module _ {T S P C M U C' : List ℕ} {c p s w r : ℕ} (en : Entry T S P C M U c
         not-up v n x k m e = clash (other x m ∙ k) (ap (stands S C') (sym e) ∙ n)
 
 -- an edge of a row that does not live
-pub dead-up : {T S P C M U : List ℕ} {c p : ℕ} → Kept T S P C M U → Enters T P c p → live S C c ≡ false → UpOk S (set P c p) C U
-dead-up {T} {S} {P} {C} {M} {U} {c} {p} k en n = record {
+pub dead-up : {T S P C M D U : List ℕ} {c p : ℕ} → Kept T S P C M D U → Enters T P c p → live S C c ≡ false → UpOk S (set P c p) C U
+dead-up {T} {S} {P} {C} {M} {D} {U} {c} {p} k en n = record {
   long = k .up .long ∙ sym (length-set P c p);
   cell = λ v j. keep ed lv (λ x. clash (low-live x) n) (λ m x. clash (low-live x) n) (here j) (stands-live S C v j) (k .up .cell v j);
   idle = λ v l j. k .up .idle v (omega (arith, l, length-set P c p)) j;
@@ -159,18 +165,3 @@ dead-up {T} {S} {P} {C} {M} {U} {c} {p} k en n = record {
     low-live : {x y : ℕ} → Low (parOf P) (stands S C) (live S C) x y → live S C y ≡ true
     low-live {x} (here t) = stands-live S C x t
     low-live (down a b l y) = lives T S P C M (k .mended .shape) (k .mended .grows) (k .mended .right) .up b l
-
--- ---- the state after an edge more
-
-pub entry : {T S P C M U : List ℕ} {c p s w : ℕ} → Kept T S P C M U → Enters T P c p → live S C c ≡ true → Stop P (live S C) s p → (w < length P) × Low (parOf P) (stands S C) (live S C) w c → Entry T S P C M U c p s w
-entry k e l s w = record { kept = k; enters = e; lives = l; stop = s; w-in = w .0; w-low = w .1 }
-
-module _ {T S P C M U P' C' M' U' : List ℕ} {c p s w z r : ℕ} (en : Entry T S P C M U c p s w) (he : Heir S P C s z) (is : P' ≡ set P c p) (md : Mended T S P' C' M') (gd : Gained S P' C C' p c r) where
-  pub entered-same : z ≡ right.none → U' ≡ set U w s → Kept T S P' C' M' U'
-  entered-same n eu = record { mended = md; up = rw (is, eu) (same-up en (rw is at gd) (heir-calm (en .kept .mended .shape .rows) he n)) }
-
-  pub entered-stand : (z ≡ right.none → ⊥) → U' ≡ set (set (set U w s) z s) s (getD U z 0) → Kept T S P' C' M' U'
-  entered-stand n eu = let b : _ = heir-below he n in record { mended = md; up = rw (is, eu) (stand-up en (rw is at gd) (b .row) (b .new) (b .inside) (b .is-low)) }
-
-pub entered-dead : {T S P C M U : List ℕ} {c p : ℕ} → Kept T S P C M U → Enters T P c p → live S C c ≡ false → Kept T S (set P c p) C M U
-entered-dead {p = p} k e l = record { mended = mended-dead p (k .mended) (e .child) (λ n. (e .parent, e .older)) l; up = dead-up k e l }

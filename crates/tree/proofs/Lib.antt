@@ -3,7 +3,9 @@ pub mod OneEdge
 pub mod Up
 pub mod Entering
 pub mod Leaving
-pub mod Inheriting
+pub mod LowsEntering
+pub mod LowsLeaving
+pub mod Edges
 pub mod Seeing
 pub mod Sweeping
 pub mod Reaching

@@ -66,7 +66,7 @@ drawn-no : (P : Par) (K : ℕ → Bool) (v : ℕ) → K v ≡ false → drawn P 
 unfolding drawn
 drawn-no P K v k = rw (k, drawn)
 
-module _ {T S P C M U Q : List ℕ} (k : Kept T S P C M U) (fl : Flags S Q (length P)) where
+module _ {T S P C M D U Q : List ℕ} (k : Kept T S P C M D U) (fl : Flags S Q (length P)) where
   up-cell : (u : ℕ) → u < length P → getD U u 0 ≡ code (drawn (parOf P) (stands S C) u)
   unfolding code
   up-cell u l = ⊎-elim
@@ -89,11 +89,11 @@ module _ {T S P C M U Q : List ℕ} (k : Kept T S P C M U) (fl : Flags S Q (leng
       standing = stands-all (k .mended) fl ∙ ap (λ (F : Par). def.stands (nodeRows (length P)) F Q) is
 
 -- the columns of a sweep that has come to x are those of the tree at x
-pub tree-at : {T S P C M U l r pa ch bl br Q : List ℕ} {i j : ℕ} (x : ℕ) → Swept T S P C M U l r pa ch bl br i j (x + 1) → Flags S Q (length P) → TreeAt (columns l r pa ch) Q (length P) x S P C U
+pub tree-at : {T S P C M D U l r pa ch bl br Q : List ℕ} {i j : ℕ} (x : ℕ) → Swept T S P C M D U l r pa ch bl br i j (x + 1) → Flags S Q (length P) → TreeAt (columns l r pa ch) Q (length P) x S P C U
 tree-at x sw fl = tree-is (sw .kept) fl _ x (placed x (sw .plan) (sw .ahead) (sw .holds) (sw .kept .mended .shape .rows))
 
 -- up to the next change y the columns are those of the tree at each position z
-pub swept-on : {T S P C M U l r pa ch bl br : List ℕ} {i j x y : ℕ} (z : ℕ) → Swept T S P C M U l r pa ch bl br i j (x + 1) → Ahead l r bl br i j y → x ≤ z → z < y → Swept T S P C M U l r pa ch bl br i j (z + 1)
+pub swept-on : {T S P C M D U l r pa ch bl br : List ℕ} {i j x y : ℕ} (z : ℕ) → Swept T S P C M D U l r pa ch bl br i j (x + 1) → Ahead l r bl br i j y → x ≤ z → z < y → Swept T S P C M D U l r pa ch bl br i j (z + 1)
 swept-on z sw ah h k = record { kept = sw .kept; plan = sw .plan; ahead = ahead-between (sw .ahead) ah (omega arith) (omega arith); holds = sw .holds }
 
 -- where the forest is the same, so is the tree

@@ -1,6 +1,6 @@
 -- A sweep starts with no edge, moves from change to change, and finds the next change.
-use mathlib.Core.Path.{_≡_, refl, sym, ap, _∙_}
-use mathlib.Core.Bool.{Bool, false}
+use mathlib.Core.Path.{_≡_, refl, sym, ap, subst, _∙_}
+use mathlib.Core.Bool.{Bool, true, false}
 use mathlib.Core.List.{List}
 use mathlib.Core.Option.{none}
 use mathlib.Core.Logic.{_⊎_, inl, inr, ⊎-elim}
@@ -9,27 +9,28 @@ use native.Mathlib.Omega.{arith}
 use borrow.Author.Tests.{lt-ltb, le-ltb, ne-eqb}
 use lib.ListN.{length, getD, set}
 use lib.Seq.{getD-set-same, getD-set-other}
-use Rattle.meaning.specs.Words.{and}
+use Rattle.meaning.specs.Words.{and, rows}
 use Rattle.mend.specs.Right as right
-use Rattle.mend.specs.Right.{W, total, one, row, live, feeds, Grows}
-use Rattle.mend.specs.Line.{root}
+use Rattle.mend.specs.Right.{W, total, one, row, live, stands, feeds, Grows}
+use Rattle.mend.specs.Line.{parOf, Low, here, root}
 use Rattle.mend.specs.Kept.{Mended, Kept, Filled}
 use Rattle.tree.specs.Sweep.{Index, Cut, Ahead, seen, Plan, Between, Swept, nextKey, nextChange}
-use Rattle.mend.proofs.Reading.{lt?, no-parent, opt-none}
+use Rattle.mend.proofs.Reading.{lt?, live-cases, stands-sample, no-parent, opt-none}
 use Rattle.laws.specs.Bools.{clash, eq?}
-use Rattle.tree.proofs.Reaching.{no-row}
+use Rattle.laws.specs.Counting.{length-rows, get-rows}
+use Rattle.tree.proofs.Reaching.{no-row, no-life}
 use Rattle.tree.proofs.Seeing.{not-begun}
 use Rattle.tree.proofs.Sweeping.{plan-on, cut-wide}
 
 -- ---- from one change to the next
 
-pub set-off : {T S P C M U l r pa ch bl br : List ℕ} {i j x : ℕ} → Swept T S P C M U l r pa ch bl br i j x → Between l r pa ch bl br P i j x x x (x + 1)
+pub set-off : {T S P C M D U l r pa ch bl br : List ℕ} {i j x : ℕ} → Swept T S P C M D U l r pa ch bl br i j x → Between l r pa ch bl br P i j x x x (x + 1)
 set-off sw = record { begun = sw .ahead .begun; ended = cut-wide (omega arith) (sw .ahead .ended); holds = sw .holds }
 
 pub turn : {l r pa ch bl br P : List ℕ} {i j x : ℕ} → Between l r pa ch bl br P i j x x (x + 1) (x + 1) → Between l r pa ch bl br P i j x (x + 1) (x + 1) (x + 1)
 turn bt = record { begun = cut-wide (omega arith) (bt .begun); ended = bt .ended; holds = bt .holds }
 
-pub arrive : {T S P C M U l r pa ch bl br : List ℕ} {n i j m : ℕ} (y : ℕ) → n ≡ length P → m ≡ j → Kept T S P C M U → Plan T l r pa ch bl br n → Between l r pa ch bl br P i j y y y y → Swept T S P C M U l r pa ch bl br i m y
+pub arrive : {T S P C M D U l r pa ch bl br : List ℕ} {n i j m : ℕ} (y : ℕ) → n ≡ length P → m ≡ j → Kept T S P C M D U → Plan T l r pa ch bl br n → Between l r pa ch bl br P i j y y y y → Swept T S P C M D U l r pa ch bl br i m y
 arrive y e f k pl bt = rw f (record { kept = k; plan = plan-on (sym e) pl; ahead = record { begun = bt .begun; ended = bt .ended }; holds = bt .holds })
 
 -- ---- the next change
@@ -88,7 +89,7 @@ total-nothing w f (suc n) h = rw (h n (omega arith)) (omega (arith, total-nothin
 zero-mod : (z : ℕ) → z ≡ 0 → 0 ≡ z % W
 zero-mod z e = rw e
 
-module _ (T S : List ℕ) {P C M U : List ℕ} {n : ℕ} (tm : length T ≡ n) (sm : length S ≡ n) (fit : (u : ℕ) → u < n → getD T u 0 < W) (few : n ≤ right.none) (fp : Filled P n right.none) (fc : Filled C n 0) (fm : Filled M n 0) (fu : Filled U n right.none) where
+module _ (T S : List ℕ) {P C M D U : List ℕ} {n : ℕ} (tm : length T ≡ n) (sm : length S ≡ n) (fit : (u : ℕ) → u < n → getD T u 0 < W) (few : n ≤ right.none) (fp : Filled P n right.none) (fc : Filled C n 0) (fm : Filled M n 0) (fd : D ≡ rows (λ i. i) n) (fu : Filled U n right.none) where
   grows-start : Grows T P
   grows-start = record {
     inside = λ u l h. absurd (h (fp .cells u (omega (arith, fp .long))));
@@ -110,10 +111,16 @@ module _ (T S : List ℕ) {P C M U : List ℕ} {n : ℕ} (tm : length T ≡ n) (
     };
   }
 
+  -- a live row is a sample, and leads to itself
+  low-start : (u : ℕ) → live S C u ≡ true → (u < n) ⊎ (n ≤ u) → Low (parOf P) (stands S C) (live S C) (getD D u 0) u
+  low-start u k (inl l) = subst (λ (w : ℕ). Low (parOf P) (stands S C) (live S C) w u) (sym (ap (λ (x : List ℕ). getD x u 0) fd ∙ get-rows (λ i. i) 0 n u l)) (here (⊎-elim (λ s. stands-sample S C u s) (λ m. absurd (omega (arith, m, fc .cells u l))) (live-cases S C u k)))
+  low-start u k (inr l) = absurd (clash k (no-life mended-start u (omega (arith, fp .long))))
+
   -- with no edge every column is right
-  pub kept-start : Kept T S P C M U
+  pub kept-start : Kept T S P C M D U
   kept-start = record {
     mended = mended-start;
+    low = record { long = ap length fd ∙ length-rows (λ i. i) n ∙ sym (fp .long); cell = λ u k. low-start u k (lt? u n) };
     up = record {
       long = fu .long ∙ sym (fp .long);
       cell = λ v k. ⊎-elim (λ (l : v < n). root (no-parent P v (omega (arith, fp .long)) (fp .cells v l)) (opt-none (getD U v 0) (fu .cells v l))) (λ (l : n ≤ v). absurd (clash k (no-row mended-start v (omega (arith, fp .long))))) (lt? v n);
@@ -122,7 +129,7 @@ module _ (T S : List ℕ) {P C M U : List ℕ} {n : ℕ} (tm : length T ≡ n) (
   }
 
   -- and the sweep is before every edge
-  pub swept-start : {l r pa ch bl br : List ℕ} → Plan T l r pa ch bl br (length P) → Swept T S P C M U l r pa ch bl br 0 0 0
+  pub swept-start : {l r pa ch bl br : List ℕ} → Plan T l r pa ch bl br (length P) → Swept T S P C M D U l r pa ch bl br 0 0 0
   unfolding seen
   swept-start {l} {r} {pa} {ch} {bl} {br} pl = record {
     kept = kept-start;

@@ -22,7 +22,7 @@ use Rattle.mend.specs.Right.{pick, total, one, live, stands, feeds}
 use Rattle.mend.specs.Line.{parOf}
 use Rattle.mend.specs.Kept.{Mended}
 use Rattle.tree.specs.TreeAt.{nodeRows, Flags}
-use Rattle.mend.proofs.Reading.{lt?, total-some, feeds-is, is-feeds, live-cases, live-sample, stands-no-sample, par-of, of-par, ranked}
+use Rattle.mend.proofs.Reading.{lt?, total-some, feeds-is, is-feeds, live-cases, live-sample, live-no-sample, stands-no-sample, par-of, of-par, ranked}
 use Rattle.mend.proofs.Only.{lives}
 
 -- the rows of a test counted from the front and from the back
@@ -56,6 +56,10 @@ past X n e u l = omega arith
 
 pub no-row : {T S P C M : List ℕ} → Mended T S P C M → (u : ℕ) → length P ≤ u → stands S C u ≡ false
 no-row {T} {S} {P} {C} {M} md u l = stands-no-sample S C u (omega (arith, List·getD-eq-default S 0 (past S (length P) (md .shape .samples) u l))) ∙ le-ltb 1 (getD C u 0) (omega (arith, List·getD-eq-default C 0 (past C (length P) (md .shape .counts) u l)))
+
+-- and none lives
+pub no-life : {T S P C M : List ℕ} → Mended T S P C M → (u : ℕ) → length P ≤ u → live S C u ≡ false
+no-life {T} {S} {P} {C} {M} md u l = live-no-sample S C u (omega (arith, List·getD-eq-default S 0 (past S (length P) (md .shape .samples) u l))) ∙ le-ltb 0 (getD C u 0) (omega (arith, List·getD-eq-default C 0 (past C (length P) (md .shape .counts) u l)))
 
 module _ {T S P C M Q : List ℕ} (md : Mended T S P C M) (fl : Flags S Q (length P)) where
   pub aged : Aged (parOf P) (λ (v : ℕ). getD T v 0)

@@ -8,7 +8,7 @@ use native.Mathlib.Omega.{arith}
 use Rattle.meaning.specs.Forest.{Par}
 use Rattle.laws.specs.Bools.{some-inj, none-some, clash, eq?}
 use Rattle.forest.specs.Lines.{Ranked}
-use Rattle.mend.specs.Line.{Low, here, down, Over, root, hit, on, Pass, start, next, Lives, Edge}
+use Rattle.mend.specs.Line.{Low, here, down, Over, root, hit, on, Lives, Edge}
 
 module _ {P : Par} {K L : ℕ → Bool} (lv : Lives P K L) where
   pub low-one : {v w x : ℕ} → Low P K L v x → Low P K L w x → v ≡ w
@@ -22,16 +22,7 @@ module _ {P : Par} {K L : ℕ → Bool} where
   low-stands (here k) = k
   low-stands (down k e l y) = low-stands y
 
-  -- what is over the low row is over each row of the line
-  pub raise : {w x : ℕ} {o : Option ℕ} → Low P K L w x → Over P K o w → Over P K o x
-  raise (here k) r = r
-  raise {o = o} (down {x} {d} k e l y) r = go (raise y r)
-    where
-      go : Over P K o d → Over P K o x
-      go (root f z) = absurd (none-some f e)
-      go (hit f h z) = absurd (clash h (subst (λ (a : ℕ). K a ≡ false) (some-inj e f) k))
-      go (on f h t) = subst (λ (a : ℕ). Over P K o a) (some-inj f e) t
-
+  -- what is over a row is over the low row of its line
   pub lower : {w x : ℕ} {o : Option ℕ} → Low P K L w x → Over P K o x → Over P K o w
   lower (here k) r = r
   lower (down k e l y) r = lower y (on e k r)
@@ -70,12 +61,6 @@ module _ {P P' : Par} {K K' L : ℕ → Bool} {c p q : ℕ} (ed : Edge P P' K K'
       go (inr t) ih = on (kept-par e) (ed .same y t ∙ k) ih
 
   module _ (rank : ℕ → ℕ) (ok : Ranked P rank) (hp : rank c < rank p) where
-    -- above q nothing changes
-    pub keep-above : {x : ℕ} {o : Option ℕ} → rank q ≤ rank x → rank c < rank q → Over P K o x → Over P' K' o x
-    keep-above {x} h hc (root e z) = root (ed .off x (λ y. omega (arith, ap rank y)) ∙ e) z
-    keep-above {x} h hc (hit {p = y} e k z) = hit (kept-par e) (ed .same y (λ t. omega (arith, ap rank t, ok .grows e)) ∙ k) z
-    keep-above {x} h hc (on {p = y} e k r) = on (kept-par e) (ed .same y (λ t. omega (arith, ap rank t, ok .grows e)) ∙ k) (keep-above (omega (arith, ok .grows e)) hc r)
-
     -- a line down by rows that stand as before is still one
     pub keep-low : {w x : ℕ} → ((y : ℕ) → rank y ≤ rank x → K' y ≡ K y) → Low P K L w x → Low P' K' L w x
     keep-low {w} h (here k) = here (h w (omega arith) ∙ k)
@@ -84,28 +69,20 @@ module _ {P P' : Par} {K K' L : ℕ → Bool} {c p q : ℕ} (ed : Edge P P' K K'
     below : (x : ℕ) → rank x < rank q → (y : ℕ) → rank y ≤ rank x → K' y ≡ K y
     below x h y l = ed .same y (λ t. omega (arith, ap rank t))
 
-    -- the climb from c by rows that do not stand, none of them q
-    pub climbed : {d : ℕ} {o : Option ℕ} → Ranked P' rank → Pass P' K c d → rank d < rank q → Over P' K' o d → Over P' K' o c
-    climbed ok' start h r = r
-    climbed ok' (next {d} {y} s e k) h r = climbed ok' s (omega (arith, ok' .grows e)) (on e (ed .same y (λ t. omega (arith, ap rank t)) ∙ k) r)
-
     -- q comes to stand: the row that was low for it
     pub other-low : {w : ℕ} → K q ≡ false → K' q ≡ true → Low P K L w q → Over P' K' (some q) w
     other-low n k (here j) = absurd (clash j n)
     other-low n k (down {d = e} j f l y) = lower (keep-low (below e (ok .grows f)) y) (hit (kept-par f) k refl)
 
-    pub self-over : {w : ℕ} {o : Option ℕ} → rank c < rank q → Low P K L w q → Over P K o w → Over P' K' o q
-    self-over h lw r = keep-above (omega arith) h (raise lw r)
-
     module _ (in-live : (v : ℕ) → K v ≡ true → L v ≡ true) (U U' : ℕ → Option ℕ) (up : (v : ℕ) → K v ≡ true → Over P K (U v) v) where
       -- q comes to stand
-      pub insert-stand : {w z : ℕ} → rank c < rank q → K q ≡ false → K' q ≡ true → Low P K L w c → Low P K L z q → Over P' K' (some q) c → U' w ≡ some q → U' z ≡ some q → U' q ≡ U z → ((v : ℕ) → (v ≡ w → ⊥) → (v ≡ z → ⊥) → (v ≡ q → ⊥) → U' v ≡ U v) → (v : ℕ) → K' v ≡ true → Over P' K' (U' v) v
-      insert-stand {w} {z} h n k lw lz oc uw uz uq rest v kv = go (eq? v w) (eq? v z) (eq? v q)
+      pub insert-stand : {w z : ℕ} → rank c < rank q → K q ≡ false → K' q ≡ true → Low P K L w c → Low P K L z q → Over P' K' (some q) c → U' w ≡ some q → U' z ≡ some q → Over P' K' (U' q) q → ((v : ℕ) → (v ≡ w → ⊥) → (v ≡ z → ⊥) → (v ≡ q → ⊥) → U' v ≡ U v) → (v : ℕ) → K' v ≡ true → Over P' K' (U' v) v
+      insert-stand {w} {z} h n k lw lz oc uw uz oq rest v kv = go (eq? v w) (eq? v z) (eq? v q)
         where
           go : (v ≡ w) ⊎ (v ≡ w → ⊥) → (v ≡ z) ⊎ (v ≡ z → ⊥) → (v ≡ q) ⊎ (v ≡ q → ⊥) → Over P' K' (U' v) v
           go (inl t) b d = subst (λ (x : ℕ). Over P' K' (U' x) x) (sym t) (subst (λ (o : Option ℕ). Over P' K' o w) (sym uw) (lower (keep-low (below c h) lw) oc))
           go (inr s) (inl t) d = subst (λ (x : ℕ). Over P' K' (U' x) x) (sym t) (subst (λ (o : Option ℕ). Over P' K' o z) (sym uz) (other-low n k lz))
-          go (inr s) (inr r) (inl t) = subst (λ (x : ℕ). Over P' K' (U' x) x) (sym t) (subst (λ (o : Option ℕ). Over P' K' o q) (sym uq) (self-over h lz (up z (low-stands lz))))
+          go (inr s) (inr r) (inl t) = subst (λ (x : ℕ). Over P' K' (U' x) x) (sym t) oq
           go (inr s) (inr r) (inr t) = let j : K v ≡ true = sym (ed .same v t) ∙ kv in subst (λ (o : Option ℕ). Over P' K' o v) (sym (rest v s r t)) (keep (λ x. s (low-one lv x lw)) (λ m x. r (low-one lv x lz)) (here j) (in-live v j) (up v j))
 
       -- nothing comes to stand
@@ -118,12 +95,12 @@ module _ {P P' : Par} {K K' L : ℕ → Bool} {c p q : ℕ} (ed : Edge P P' K K'
 
     -- an edge less: P and K are then the new ones
     module _ (in-live : (v : ℕ) → K v ≡ true → L v ≡ true) (U U' : ℕ → Option ℕ) (total : (v : ℕ) → (o : Option ℕ) × Over P K o v) (up : (v : ℕ) → K' v ≡ true → Over P' K' (U' v) v) where
-      pub remove-stand : {w z : ℕ} → rank c < rank q → K q ≡ false → K' q ≡ true → Low P K L w c → Low P K L z q → U w ≡ none → ((z ≡ w → ⊥) → U z ≡ U' q) → ((v : ℕ) → (v ≡ w → ⊥) → (v ≡ z → ⊥) → (v ≡ q → ⊥) → U v ≡ U' v) → (v : ℕ) → K v ≡ true → Over P K (U v) v
-      remove-stand {w} {z} h n k lw lz uw uz rest v kv = go (eq? v w) (eq? v z) (eq? v q)
+      pub remove-stand : {w z : ℕ} → K q ≡ false → Low P K L w c → Low P K L z q → U w ≡ none → ((z ≡ w → ⊥) → Over P K (U z) q) → ((v : ℕ) → (v ≡ w → ⊥) → (v ≡ z → ⊥) → (v ≡ q → ⊥) → U v ≡ U' v) → (v : ℕ) → K v ≡ true → Over P K (U v) v
+      remove-stand {w} {z} n lw lz uw oz rest v kv = go (eq? v w) (eq? v z) (eq? v q)
         where
           go : (v ≡ w) ⊎ (v ≡ w → ⊥) → (v ≡ z) ⊎ (v ≡ z → ⊥) → (v ≡ q) ⊎ (v ≡ q → ⊥) → Over P K (U v) v
           go (inl t) b d = subst (λ (x : ℕ). Over P K (U x) x) (sym t) (subst (λ (o : Option ℕ). Over P K o w) (sym uw) (lower lw (root (ed .before) refl)))
-          go (inr s) (inl t) d = let r : _ = total v in subst (λ (o : Option ℕ). Over P K o v) (over-one (self-over h lz (subst (λ (x : ℕ). Over P K (r .0) x) t (r .1))) (up q k) ∙ sym (uz (λ a. s (t ∙ a))) ∙ ap U (sym t)) (r .1)
+          go (inr s) (inl t) d = subst (λ (x : ℕ). Over P K (U x) x) (sym t) (lower lz (oz (λ a. s (t ∙ a))))
           go (inr s) (inr r) (inl t) = absurd (clash kv (ap K t ∙ n))
           go (inr s) (inr r) (inr t) = let m : _ = total v in subst (λ (o : Option ℕ). Over P K o v) (over-one (keep (λ x. s (low-one lv x lw)) (λ i x. r (low-one lv x lz)) (here kv) (in-live v kv) (m .1)) (up v (ed .same v t ∙ kv)) ∙ sym (rest v s r t)) (m .1)
 

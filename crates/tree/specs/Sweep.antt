@@ -66,8 +66,8 @@ pub record Between (l r pa ch bl br P : List ℕ) (i j lo hi from to : ℕ) : Ty
   pub holds : Holds (acts bl br i j) ch pa P
 
 -- all columns are those of the edges that begin below y and do not end below y
-pub record Swept (T S P C M U l r pa ch bl br : List ℕ) (i j y : ℕ) : Type 0 where
-  pub kept : Kept T S P C M U
+pub record Swept (T S P C M D U l r pa ch bl br : List ℕ) (i j y : ℕ) : Type 0 where
+  pub kept : Kept T S P C M D U
   pub plan : Plan T l r pa ch bl br (length P)
   pub ahead : Ahead l r bl br i j y
   pub holds : Holds (acts bl br i j) ch pa P

@@ -1,14 +1,11 @@
-// One edge enters or leaves: parents, counts, sums and the nearest standing rows, with a list of the rows written.
+// One edge enters or leaves: parents, counts, sums and the nearest standing rows below and above, with a list of the rows whose row above was
+// written.
 use super::NONE;
 use mend::alive;
 use mend::climb_down;
 use mend::climb_up;
-use mend::heir;
-use mend::low;
-use mend::stop;
-use mend::up::cede;
-use mend::up::put_up;
-use mend::up::seat;
+use mend::turn::gain;
+use mend::turn::lose;
 ghost use mathlib.Core.Path.{_≡_};
 ghost use mathlib.Core.Bool.{true};
 ghost use Prim.Native.Nat.{_<_};
@@ -18,21 +15,23 @@ ghost use Rattle.mend.specs.Line.{Gained, Lost};
 ghost use Rattle.mend.specs.Kept.{Mended, Kept, Enters};
 ghost use Rattle.mend.specs.Listing.{Listed, Noted};
 
-// c, which lives, gets the parent p; the answer is the row where mending ends.
+// c, which lives and leads down to w, gets the parent p; the answer is the row where mending ends.
 fn link(
     time: &[u32],
     sample: &[u8],
     parent: &mut [u32],
     count: &mut [u32],
     sum: &mut [u32],
+    low: &mut [u32],
     c: u32,
     p: u32,
+    w: u32,
 ) -> u32
-    requires { ⌜ Mended (now time) (now sample) (now parent) (now count) (now sum) × Enters (now time) (now parent) c p × (live (now sample) (now count) c ≡ true) ⌝ }
-    ensures { λ r. ⌜ (now (parent .exit) ≡ set (now (parent .entry)) c p) × Mended (now (time .entry)) (now (sample .entry)) (now (parent .exit)) (now (count .exit)) (now (sum .exit)) × Gained (now (sample .entry)) (now (parent .exit)) (now (count .entry)) (now (count .exit)) p c r ⌝ }
+    requires { ⌜ Mended (now time) (now sample) (now parent) (now count) (now sum) × (length (now low) ≡ length (now parent)) × Enters (now time) (now parent) c p × (live (now sample) (now count) c ≡ true) ⌝ }
+    ensures { λ r. ⌜ (now (parent .exit) ≡ set (now (parent .entry)) c p) × Mended (now (time .entry)) (now (sample .entry)) (now (parent .exit)) (now (count .exit)) (now (sum .exit)) × Gained (now (sample .entry)) (now (parent .exit)) (now (count .entry)) (now (count .exit)) (now (low .entry)) (now (low .exit)) p c w r ⌝ }
 {
     parent[c as usize] = p;
-    climb_up(time, sample, parent, count, sum, p, c)
+    climb_up(time, sample, parent, count, sum, low, p, c, w)
 }
 
 // c, which lives, loses its parent; the answer is the row where mending ends.
@@ -59,6 +58,7 @@ pub fn insert_up(
     parent: &mut [u32],
     count: &mut [u32],
     sum: &mut [u32],
+    low: &mut [u32],
     up: &mut [u32],
     touched: &mut [u32],
     listed: &mut [u8],
@@ -66,18 +66,25 @@ pub fn insert_up(
     c: u32,
     p: u32,
 ) -> usize
-    requires { ⌜ Kept (now time) (now sample) (now parent) (now count) (now sum) (now up) × Enters (now time) (now parent) c p × Listed (length (now up)) k (now touched) (now listed) ⌝ }
-    ensures { λ r. ⌜ (now (parent .exit) ≡ set (now (parent .entry)) c p) × Kept (now (time .entry)) (now (sample .entry)) (now (parent .exit)) (now (count .exit)) (now (sum .exit)) (now (up .exit)) × Noted (length (now (up .entry))) (now (up .entry)) (now (up .exit)) (now (touched .entry)) (now (listed .entry)) (now (touched .exit)) (now (listed .exit)) k r ⌝ }
+    requires { ⌜ Kept (now time) (now sample) (now parent) (now count) (now sum) (now low) (now up) × Enters (now time) (now parent) c p × Listed (length (now up)) k (now touched) (now listed) ⌝ }
+    ensures { λ r. ⌜ (now (parent .exit) ≡ set (now (parent .entry)) c p) × Kept (now (time .entry)) (now (sample .entry)) (now (parent .exit)) (now (count .exit)) (now (sum .exit)) (now (low .exit)) (now (up .exit)) × Noted (length (now (up .entry))) (now (up .entry)) (now (up .exit)) (now (touched .entry)) (now (listed .entry)) (now (touched .exit)) (now (listed .exit)) k r ⌝ }
 {
     if alive(sample, count, c) {
-        let s = stop(time, sample, parent, count, p);
-        let w = low(time, sample, parent, count, sum, c);
-        let z = heir(time, sample, parent, count, sum, s);
-        link(time, sample, parent, count, sum, c, p);
-        if z == NONE {
-            return put_up(up, touched, listed, k, w, s);
-        }
-        return seat(up, touched, listed, k, w, z, s);
+        let w = low[c as usize];
+        let s = link(time, sample, parent, count, sum, low, c, p, w);
+        return gain(
+            time,
+            sample,
+            parent,
+            count,
+            low,
+            up,
+            touched,
+            listed,
+            k,
+            w,
+            s,
+        );
     }
     parent[c as usize] = p;
     k
@@ -90,23 +97,33 @@ pub fn remove_up(
     parent: &mut [u32],
     count: &mut [u32],
     sum: &mut [u32],
+    low: &mut [u32],
     up: &mut [u32],
     touched: &mut [u32],
     listed: &mut [u8],
     k: usize,
     c: u32,
 ) -> usize
-    requires { ⌜ Kept (now time) (now sample) (now parent) (now count) (now sum) (now up) × (c < length (now parent)) × Listed (length (now up)) k (now touched) (now listed) × (getD (now parent) c 0 ≡ none → ⊥) ⌝ }
-    ensures { λ r. ⌜ (now (parent .exit) ≡ set (now (parent .entry)) c none) × Kept (now (time .entry)) (now (sample .entry)) (now (parent .exit)) (now (count .exit)) (now (sum .exit)) (now (up .exit)) × Noted (length (now (up .entry))) (now (up .entry)) (now (up .exit)) (now (touched .entry)) (now (listed .entry)) (now (touched .exit)) (now (listed .exit)) k r ⌝ }
+    requires { ⌜ Kept (now time) (now sample) (now parent) (now count) (now sum) (now low) (now up) × (c < length (now parent)) × Listed (length (now up)) k (now touched) (now listed) × (getD (now parent) c 0 ≡ none → ⊥) ⌝ }
+    ensures { λ r. ⌜ (now (parent .exit) ≡ set (now (parent .entry)) c none) × Kept (now (time .entry)) (now (sample .entry)) (now (parent .exit)) (now (count .exit)) (now (sum .exit)) (now (low .exit)) (now (up .exit)) × Noted (length (now (up .entry))) (now (up .entry)) (now (up .exit)) (now (touched .entry)) (now (listed .entry)) (now (touched .exit)) (now (listed .exit)) k r ⌝ }
 {
     if alive(sample, count, c) {
+        let w = low[c as usize];
         let s = unlink(time, sample, parent, count, sum, c);
-        let w = low(time, sample, parent, count, sum, c);
-        let z = heir(time, sample, parent, count, sum, s);
-        if z == NONE {
-            return put_up(up, touched, listed, k, w, NONE);
-        }
-        return cede(up, touched, listed, k, w, z, s);
+        return lose(
+            time,
+            sample,
+            parent,
+            count,
+            sum,
+            low,
+            up,
+            touched,
+            listed,
+            k,
+            w,
+            s,
+        );
     }
     parent[c as usize] = NONE;
     k

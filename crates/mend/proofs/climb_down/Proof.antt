@@ -18,7 +18,7 @@ abbrev μ-loop : tie.MeasureT-loop
 μ-loop time sample parent count₀ sum₀ q0 d0 q₀ d₀ count sum q d = climb time q
 
 loop-holds : tie.Need-loop-holds Inv-loop μ-loop
-loop-holds c = (c .before .before .before .before .before .pre .0, c .before .before .before .before .before .pre .2, c .before .before .before .before .before .pre .3, c .before .before .before .before .before .pre .4, (λ v. refl), (λ n. omega arith), record { same = λ v l. refl })
+loop-holds c = (c .before .before .before .before .before .pre .0, c .before .before .before .before .before .pre .2, c .before .before .before .before .before .pre .3, c .before .before .before .before .before .pre .4, (λ v. refl), (λ n. omega arith), record { same = λ v l. refl; less = λ v l. l })
 
 take-requires : tie.Need-take-requires Inv-loop μ-loop
 take-requires c κs =
@@ -75,7 +75,7 @@ loop-again c =
       lose-goes _ _ _ _ _ _ _ (inv .0) hq _ _ (inv .3) (inv .2) (c .before .before .before .before .before .before .before .before .take .ensures .0) (c .before .before .before .before .before .before .before .before .take .ensures .1) l,
       (λ v. fall-pass _ _ _ _ hc (some _ _ _ _ _ _ _ (inv .0) hq (inv .3)) (c .before .before .before .before .before .before .before .before .take .ensures .0) l v ∙ inv .4 v),
       (λ n. le-lt (inv .5 m) (c .before .before .before .before .before .before .before .before .before .before .before .before .before .before .before .before .before .before .pre .1 .age _ hq n)),
-      fall-under _ _ _ _ _ _ _ _ (c .before .before .before .before .before .before .before .before .take .ensures .0) (inv .5 m) (inv .6),
+      fall-under _ _ _ _ _ _ _ (some _ _ _ _ _ _ _ (inv .0) hq (inv .3)) (c .before .before .before .before .before .before .before .before .take .ensures .0) (inv .5 m) (inv .6),
     )
 
 same-length-3 : tie.Need-same-length-3 Inv-loop μ-loop

@@ -9,13 +9,13 @@ use Rattle.placing.proofs.place.Statement.{statement}
 use Rattle.placing.proofs.place.Tie as tie
 
 abbrev Inv-loop : tie.InvT-loop
-Inv-loop time sample par count sum position site node mrow₀ mlow₀ m0 k0 next m₀ k₀ mrow mlow m k = Between sample par position site node next (record { row = mrow₀; low = mlow₀; count = k0 }) m0 (record { row = mrow; low = mlow; count = k }) m
+Inv-loop time sample par count sum low position site node mrow₀ mlow₀ m0 k0 next m₀ k₀ mrow mlow m k = Between sample par position site node next (record { row = mrow₀; low = mlow₀; count = k0 }) m0 (record { row = mrow; low = mlow; count = k }) m
 
 abbrev μ-loop : tie.MeasureT-loop
-μ-loop time sample par count sum position site node mrow₀ mlow₀ m0 k0 next m₀ k₀ mrow mlow m k = length site - m
+μ-loop time sample par count sum low position site node mrow₀ mlow₀ m0 k0 next m₀ k₀ mrow mlow m k = length site - m
 
 loop-holds : tie.Need-loop-holds Inv-loop μ-loop
-loop-holds c = none-given (c .before .before .before .before .before .before .before .before .before .before .pre .1 .most) (c .before .before .before .before .before .before .before .before .before .before .pre .1 .few)
+loop-holds c = none-given (c .before .before .before .before .before .before .before .before .before .before .before .pre .2 .most) (c .before .before .before .before .before .before .before .before .before .before .before .pre .2 .few)
 
 mul-s : tie.Need-mul-s Inv-loop μ-loop
 mul-s c = search needs
@@ -24,13 +24,13 @@ shared-slice-read-s : tie.Need-shared-slice-read-s Inv-loop μ-loop
 shared-slice-read-s c = search needs
 
 cast-if1 : tie.Need-cast-if1 Inv-loop μ-loop
-cast-if1 c = let h : _ = c .before .before .before .before .before .before .before .before .before .before .before .before .before .pre .1 .site-row _ (c .before .loop-test .taken) in search needs
+cast-if1 c = let h : _ = c .before .before .before .before .before .before .before .before .before .before .before .before .before .before .pre .2 .site-row _ (c .before .loop-test .taken) in search needs
 
 mul-if1 : tie.Need-mul-if1 Inv-loop μ-loop
-mul-if1 c = let h : _ = c .before .before .before .before .before .before .before .before .before .before .before .before .before .pre .1 .site-row _ (c .before .loop-test .taken) in search needs
+mul-if1 c = let h : _ = c .before .before .before .before .before .before .before .before .before .before .before .before .before .before .pre .2 .site-row _ (c .before .loop-test .taken) in search needs
 
 shared-slice-read-if1 : tie.Need-shared-slice-read-if1 Inv-loop μ-loop
-shared-slice-read-if1 c = c .before .before .before .before .before .before .before .before .before .before .before .before .before .before .pre .1 .site-row _ (c .before .before .loop-test .taken)
+shared-slice-read-if1 c = c .before .before .before .before .before .before .before .before .before .before .before .before .before .before .before .pre .2 .site-row _ (c .before .before .loop-test .taken)
 
 same-length : tie.Need-same-length Inv-loop μ-loop
 same-length c = c .before .before .before .before .loop .inv .beyond .rows-long
@@ -42,22 +42,22 @@ returns : tie.Need-returns Inv-loop μ-loop
 returns c = record { between = c .before .before .before .before .loop .inv; stopped = λ h. (c .if1 .taken) }
 
 mul-low-at : tie.Need-mul-low-at Inv-loop μ-loop
-mul-low-at c = let h : _ = c .before .before .before .before .before .before .before .before .before .before .before .before .before .before .before .pre .1 .nodes in let l : _ = (c .before .before .before .loop-test .taken) in search needs
+mul-low-at c = let h : _ = c .before .before .before .before .before .before .before .before .before .before .before .before .before .before .before .before .pre .2 .nodes in let l : _ = (c .before .before .before .loop-test .taken) in search needs
 
 shared-slice-read-low-at : tie.Need-shared-slice-read-low-at Inv-loop μ-loop
-shared-slice-read-low-at c = omega (arith, c .before .before .before .before .before .before .before .before .before .before .before .before .before .before .before .before .pre .1 .nodes, c .before .before .before .before .loop-test .taken)
+shared-slice-read-low-at c = omega (arith, c .before .before .before .before .before .before .before .before .before .before .before .before .before .before .before .before .before .pre .2 .nodes, c .before .before .before .before .loop-test .taken)
 
 low-at-requires : tie.Need-low-at-requires Inv-loop μ-loop
-low-at-requires c κs = (c .before .before .before .before .before .before .before .before .before .before .before .before .before .before .before .before .pre .0, c .before .before .before .before .before .before .before .before .before .before .before .before .before .before .before .before .pre .1 .node-row _ (c .before .before .before .before .loop-test .taken))
+low-at-requires c κs = (c .before .before .before .before .before .before .before .before .before .before .before .before .before .before .before .before .before .pre .0, c .before .before .before .before .before .before .before .before .before .before .before .before .before .before .before .before .before .pre .1, c .before .before .before .before .before .before .before .before .before .before .before .before .before .before .before .before .before .pre .2 .node-row _ (c .before .before .before .before .loop-test .taken))
 
 cast-keep : tie.Need-cast-keep Inv-loop μ-loop
-cast-keep c = omega (arith, c .before .before .before .before .before .before .before .before .before .before .before .before .before .before .before .before .before .before .before .pre .1 .numbered, c .before .before .before .before .before .before .before .loop-test .taken)
+cast-keep c = omega (arith, c .before .before .before .before .before .before .before .before .before .before .before .before .before .before .before .before .before .before .before .before .pre .2 .numbered, c .before .before .before .before .before .before .before .loop-test .taken)
 
 keep-requires : tie.Need-keep-requires Inv-loop μ-loop
-keep-requires c κs = (omega (arith, c .before .before .before .before .before .before .before .before .before .before .before .before .before .before .before .before .before .before .before .pre .1 .even, c .before .before .before .before .before .before .before .before .loop .inv .beyond .rows-long, c .before .before .before .before .before .before .before .before .loop .inv .beyond .lows-long), omega (arith, c .before .before .before .before .before .before .before .before .before .before .before .before .before .before .before .before .before .before .before .pre .1 .numbered, c .before .before .before .before .before .before .before .loop-test .taken, c .before .before .before .before .before .before .before .before .loop .inv .few))
+keep-requires c κs = (omega (arith, c .before .before .before .before .before .before .before .before .before .before .before .before .before .before .before .before .before .before .before .before .pre .2 .even, c .before .before .before .before .before .before .before .before .loop .inv .beyond .rows-long, c .before .before .before .before .before .before .before .before .loop .inv .beyond .lows-long), omega (arith, c .before .before .before .before .before .before .before .before .before .before .before .before .before .before .before .before .before .before .before .before .pre .2 .numbered, c .before .before .before .before .before .before .before .loop-test .taken, c .before .before .before .before .before .before .before .before .loop .inv .few))
 
 add-m : tie.Need-add-m Inv-loop μ-loop
-add-m c = omega (arith, c .before .before .before .before .before .before .before .before .before .before .before .before .before .before .before .before .before .before .before .before .before .before .before .before .pre .1 .numbered, c .before .before .before .before .before .before .before .before .before .before .before .before .loop-test .taken)
+add-m c = omega (arith, c .before .before .before .before .before .before .before .before .before .before .before .before .before .before .before .before .before .before .before .before .before .before .before .before .before .pre .2 .numbered, c .before .before .before .before .before .before .before .before .before .before .before .before .loop-test .taken)
 
 loop-less : tie.Need-loop-less Inv-loop μ-loop
 loop-less c = omega (arith, c .before .before .before .before .before .before .before .before .before .before .before .before .loop-test .taken)

@@ -1,27 +1,20 @@
 -- `mend::up::cede` meets its contract: three writes, one after the other.
 use mathlib.Core.Path.{sym}
 use native.Mathlib.Omega.{arith}
-use lib.ListN.{getD}
 use Rattle.mend.specs.Listing.{listed-same}
 use Rattle.mend.proofs.Touching.{noted-three}
 use borrow.Author.Needs.{needs}
 use Rattle.mend.proofs.up.cede.Statement.{statement}
 use Rattle.mend.proofs.up.cede.Tie as tie
 
-mul-o : tie.Need-mul-o
-mul-o c = search needs
-
-slice-read-o : tie.Need-slice-read-o
-slice-read-o c = search needs
-
 put-up-requires : tie.Need-put-up-requires
-put-up-requires c κs = (c .before .before .before .before .before .before .before .pre .1, c .before .before .before .before .before .before .before .pre .3)
+put-up-requires c κs = (c .before .before .before .before .before .before .pre .1, c .before .before .before .before .before .before .pre .3)
 
 put-up-requires-2 : tie.Need-put-up-requires-2
-put-up-requires-2 c κs = let e : _ = c .before .before .before .before .before .before .before .before .before .put-up .kept .0 in (omega (arith, c .before .before .before .before .before .before .before .before .before .before .before .before .before .before .before .before .before .pre .2), listed-same (sym e) (c .before .before .before .before .before .before .before .before .before .put-up .ensures .1 .listing))
+put-up-requires-2 c κs = let e : _ = c .before .before .before .before .before .before .before .before .before .put-up .kept .0 in (omega (arith, c .before .before .before .before .before .before .before .before .before .before .before .before .before .before .before .before .pre .2), listed-same (sym e) (c .before .before .before .before .before .before .before .before .before .put-up .ensures .1 .listing))
 
 put-up-requires-3 : tie.Need-put-up-requires-3
-put-up-requires-3 c κs = let e : _ = c .before .before .before .before .before .before .before .before .before .put-up2 .kept .0 in let d : _ = c .before .before .before .before .before .before .before .before .before .before .before .before .before .before .before .before .before .before .before .put-up .kept .0 in (omega (arith, c .before .before .before .before .before .before .before .before .before .before .before .before .before .before .before .before .before .before .before .before .before .before .before .before .before .before .before .pre .0), listed-same (sym e) (c .before .before .before .before .before .before .before .before .before .put-up2 .ensures .1 .listing))
+put-up-requires-3 c κs = let e : _ = c .before .before .before .before .before .before .before .before .before .put-up2 .kept .0 in let d : _ = c .before .before .before .before .before .before .before .before .before .before .before .before .before .before .before .before .before .before .before .put-up .kept .0 in (omega (arith, c .before .before .before .before .before .before .before .before .before .before .before .before .before .before .before .before .before .before .before .before .before .before .before .before .before .before .pre .0), listed-same (sym e) (c .before .before .before .before .before .before .before .before .before .put-up2 .ensures .1 .listing))
 
 same-length : tie.Need-same-length
 same-length c = search needs
@@ -33,14 +26,12 @@ same-length-3 : tie.Need-same-length-3
 same-length-3 c = search needs
 
 returns : tie.Need-returns
-returns c = let a : _ = c .before .before .before .before .before .before .before .before .before .before .before .before .before .before .before .before .before .before .before .before .before .before .before .before .before .before .before .before .before .before .before .before .before .before .args in noted-three (a .z) (a .s) (a .w) (getD (a .up .now) (a .s) 0) 4294967295 4294967295 (c .before .before .before .before .before .before .before .before .before .before .before .before .before .before .before .before .before .before .before .before .before .before .before .before .before .before .put-up .ensures) (c .before .before .before .before .before .before .before .before .before .before .before .before .before .before .before .before .put-up2 .ensures) (c .before .before .before .before .before .before .put-up3 .ensures)
+returns c = let a : _ = c .before .before .before .before .before .before .before .before .before .before .before .before .before .before .before .before .before .before .before .before .before .before .before .before .before .before .before .before .before .before .before .before .before .args in noted-three (a .z) (a .s) (a .w) (a .o) 4294967295 4294967295 (c .before .before .before .before .before .before .before .before .before .before .before .before .before .before .before .before .before .before .before .before .before .before .before .before .before .before .put-up .ensures) (c .before .before .before .before .before .before .before .before .before .before .before .before .before .before .before .before .put-up2 .ensures) (c .before .before .before .before .before .before .put-up3 .ensures)
 
 pub cede-spec : {M : Type 1} → statement M
 cede-spec =
     tie.close
     (tie.spec
-    mul-o
-    slice-read-o
     put-up-requires
     put-up-requires-2
     put-up-requires-3
