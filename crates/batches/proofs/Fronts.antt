@@ -6,7 +6,7 @@ use native.Mathlib.Nat.{not-suc-le-zero, le-of-suc-le-suc}
 use native.Mathlib.Omega.{arith}
 use native.Mathlib.Numerals.{add-one}
 use lib.ListN.{length, getD, take, drop, set, replicate, length-append, length-take, length-drop, length-replicate, List·getD-append, length-set, length-map}
-use lib.Seq.{take-at}
+use lib.Seq.{take-at, length-take-le, getD-take}
 use Rattle.meaning.specs.Words.{at}
 use Rattle.meaning.specs.Answer.{put}
 
@@ -69,10 +69,6 @@ module _ (l old : List ℕ) (h : length l ≤ length old) where
   unfolding put
   put-long = simp (length-append, length-drop) (omega arith)
 
-  pub put-cell : (i : ℕ) → i < length l → at (put l old) i ≡ at l i
-  unfolding put
-  put-cell i k = get-left 0 l (drop (length l) old) i k
-
   pub put-front : take (length l) (put l old) ≡ l
   unfolding put
   put-front = take-at l (drop (length l) old) (length l) refl
@@ -86,11 +82,14 @@ module _ (a b : List ℕ) (i : ℕ) where
   pub second-cell : length a ≤ i → at b (i - length a) ≡ at (a ++ b) i
   second-cell h = sym (get-right 0 a b i h)
 
-pub mapped-cell : (rows names : List ℕ) (f : ℕ → ℕ) (i : ℕ) → i < length rows + length names → length rows ≤ i → f (at names (i - length rows)) ≡ at (rows ++ map f names) i
-mapped-cell rows names f i h k = sym (get-right 0 rows (map f names) i k ∙ get-map f names (i - length rows) 0 0 (omega arith))
-
 pub length-mapped : (rows names : List ℕ) (f : ℕ → ℕ) → length (rows ++ map f names) ≡ length rows + length names
 length-mapped rows names f = length-append rows (map f names) ∙ ap (λ n. length rows + n) (length-map names f)
+
+-- a cell that is written already
+pub front-cell : (l old : List ℕ) (i : ℕ) (out : List ℕ) → Front l old i out → (j : ℕ) → j < i → i ≤ length l → at out j ≡ at l j
+front-cell l old i out f j h k =
+    let q : length (take i l) ≡ i = length-take-le i l k in
+    ap (λ o. at o j) (f .cells) ∙ get-left 0 (take i l) (drop i old) j (omega arith) ∙ getD-take i l j 0 h
 
 -- ---- the front of a column, lent as a part
 
@@ -142,3 +141,14 @@ put-whole [] [] e = refl
 put-whole [] (y ∷ o) e = absurd (omega arith)
 put-whole (x ∷ l) [] e = absurd (omega arith)
 put-whole (x ∷ l) (y ∷ o) e = ap (λ (r : List ℕ). x ∷ r) (put-whole l o (omega arith))
+
+-- a list put over a shorter one leaves nothing of it
+pub put-over : (l w old : List ℕ) → length w ≤ length l → length l ≤ length old → put l (put w old) ≡ put l old
+unfolding put
+put-over l w old h k = ap (λ r. l ++ r) (drop-over l w old h k)
+  where
+    drop-over : (l w old : List ℕ) → length w ≤ length l → length l ≤ length old → drop (length l) (w ++ drop (length w) old) ≡ drop (length l) old
+    drop-over l [] old h k = refl
+    drop-over [] (x ∷ w) old h k = absurd (omega arith)
+    drop-over (y ∷ l) (x ∷ w) [] h k = absurd (omega arith)
+    drop-over (y ∷ l) (x ∷ w) (z ∷ old) h k = drop-over l w old (omega arith) (omega arith)

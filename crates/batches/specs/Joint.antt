@@ -63,14 +63,6 @@ pub record Joint (L : ℕ) (T : Tables) (B : BatchTables) : Type 0 where
 
 -- ---- the joint edges in lent columns
 
--- so many columns have room
-pub record JointRoom (base birth : List ℕ) (E F out : EdgeColumns) : Type 0 where
-  pub nodes : length base + length birth ≤ limits .nodes
-  pub left : length (E .left) + length (F .left) ≤ length (out .left)
-  pub right : length (E .right) + length (F .right) ≤ length (out .right)
-  pub parent : length (E .parent) + length (F .parent) ≤ length (out .parent)
-  pub child : length (E .child) + length (F .child) ≤ length (out .child)
-
 -- the columns have the edges at their front
 pub record JointPut (E old out : EdgeColumns) : Type 0 where
   pub left : out .left ≡ put (E .left) (old .left)

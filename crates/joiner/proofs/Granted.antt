@@ -54,10 +54,13 @@ module _ (L : ℕ) (T : Tables) (B : BatchTables) (k : Joinable L T B) where
   edges-asked out r =
       let j : Joint L T B = joint in
       record {
-        joint = record { base-long = j .base-long; long = j .long; few = j .few; base-once = j .base-once; once = j .once; fresh = j .fresh; rising = j .rising; even = j .even; edge = j .edge };
-        few = k .batch .size .edges;
-        base-single = base-single;
-        single = batch-single;
+        found = record {
+          joint = record { base-long = j .base-long; long = j .long; few = j .few; base-once = j .base-once; once = j .once; fresh = j .fresh; rising = j .rising; even = j .even; edge = j .edge };
+          few = k .batch .size .edges;
+          base-single = base-single;
+          base-rises = record { above = k .sound .tree .ordered };
+          single = batch-single;
+        };
         room = r;
       }
 
@@ -80,6 +83,6 @@ module _ (L : ℕ) (T : Tables) (B : BatchTables) (k : Joinable L T B) where
     base-derived-long = k .sound .shape .derived;
     node-long = k .batch .shape .mutated;
     derived-long = k .batch .shape .derived;
-    few = k .batch .size .muts;
+    sites = record { few = k .batch .size .muts; rising = k .sound .sites .rising };
     room = r;
   }
