@@ -21,7 +21,6 @@ use Rattle.overtaking.specs.Known.{Known}
 use Rattle.overtaking.proofs.Knowing.{none-known, known-on, further}
 use Rattle.overtaking.proofs.Overtaking.{goes-on, lower-before, over-next, over-none}
 use Rattle.overtaking.proofs.Stamping.{still-stamped}
-use Rattle.overtaking.proofs.Bounding.{bounded-ends, bounded-more}
 
 -- a row still to come after row i was still to come before it
 from-before : {site : List ℕ} {s i j : ℕ} → From site s (suc i) j → From site s i j
@@ -83,9 +82,9 @@ module _ (time : List ℕ) (E : EdgeColumns) (position site node : List ℕ) whe
     }
 
     -- it does not: its ancestors are stamped up to its bound
-    ready-more : (oldest : List ℕ) → Bounded time site node i oldest → endsSite site i ≡ false → (after : List ℕ) → StampedUp (parentRow E (at position (at site i))) (at time) (at site i + 1) (at oldest (at node i)) (at node i) stamps after → ReadyNext time E position site node i after
-    ready-more oldest b h after g = record {
-      next = λ l. subst (λ s. Ready time E position site node s (suc i) after) (goes-on site i h .1) (ready-on (at site i) i (at oldest (at node i)) stamps after r refl (λ j f. b .cell i j (omega arith) (omega (arith, f .after)) (from-before f)) g);
+    ready-more : (b : ℕ) → Bounded time site node i b → endsSite site i ≡ false → (after : List ℕ) → StampedUp (parentRow E (at position (at site i))) (at time) (at site i + 1) b (at node i) stamps after → ReadyNext time E position site node i after
+    ready-more b far h after g = record {
+      next = λ l. subst (λ s. Ready time E position site node s (suc i) after) (goes-on site i h .1) (ready-on (at site i) i b stamps after r refl (far .later) g);
     }
 
 -- the loop counts on by adding one
@@ -101,39 +100,35 @@ zeros (suc n) (suc v) = zeros n v
 -- ---- before and after a mutation
 
 module _ {time : List ℕ} {E : EdgeColumns} {position site node : List ℕ} where
-  pub going-start : (par ends stamps oldest : List ℕ) → ((u : ℕ) → at ends u ≡ 0) → ((u : ℕ) → at stamps u ≡ 0) → Going time E position site node 0 par ends stamps oldest
-  going-start par ends stamps oldest z w = record {
+  pub going-start : (par ends stamps : List ℕ) → ((u : ℕ) → at ends u ≡ 0) → ((u : ℕ) → at stamps u ≡ 0) → Going time E position site node 0 par ends stamps
+  going-start par ends stamps z w = record {
     known = none-known E (at position (at site 0)) par ends z;
     ready = ready-start time E position site node stamps w;
-    bounded = record { kept = λ k q. absurd (omega arith) };
   }
 
-  module _ {i : ℕ} {par ends stamps oldest : List ℕ} (ok : Ordered time E position site node) where
-    pub going-next : Gone time E position site node i par ends stamps oldest → i + 1 < length site → Going time E position site node (i + 1) par ends stamps oldest
+  module _ {i : ℕ} {par ends stamps : List ℕ} (ok : Ordered time E position site node) where
+    pub going-next : Gone time E position site node i par ends stamps → i + 1 < length site → Going time E position site node (i + 1) par ends stamps
     going-next g l = record {
       known = known-on (at position (at site (i + 1))) (further position (ok .rightwards) (at site i) (at site (i + 1)) rise (ok .lined .site-row (i + 1) l)) (g .known);
       ready = ready-later i (g .ready) l;
-      bounded = let q : suc i ≡ i + 1 = omega arith in rw q at (g .bounded .next (omega arith));
     }
       where
         rise : at site i ≤ at site (i + 1)
         rise = let q : i + 1 ≡ suc i = omega arith in omega (arith, ap (at site) q, ok .lined .rise i (omega arith))
 
-    module _ (g : Going time E position site node i par ends stamps oldest) where
+    module _ (g : Going time E position site node i par ends stamps) where
       -- the row ends its site
-      pub going-ends : endsSite site i ≡ true → Gone time E position site node i par ends stamps oldest
+      pub going-ends : endsSite site i ≡ true → Gone time E position site node i par ends stamps
       going-ends e = record {
         known = g .known;
         ready = ready-new time E position site node i stamps (g .ready) (length position) (length time) (ok .lined) e;
-        bounded = bounded-ends e;
       }
 
       -- it does not: its ancestors are stamped
-      pub going-more : {par' ends' stamps' oldest' : List ℕ} → endsSite site i ≡ false → Bounded time site node i oldest' → StampedUp (parentRow E (at position (at site i))) (at time) (at site i + 1) (at oldest' (at node i)) (at node i) stamps stamps' → Known E (at position (at site i)) par' ends' → Gone time E position site node i par' ends' stamps' oldest'
-      going-more {par'} {ends'} {stamps'} {oldest'} e b m k = record {
+      pub going-more : {par' ends' stamps' : List ℕ} {b : ℕ} → endsSite site i ≡ false → Bounded time site node i b → StampedUp (parentRow E (at position (at site i))) (at time) (at site i + 1) b (at node i) stamps stamps' → Known E (at position (at site i)) par' ends' → Gone time E position site node i par' ends' stamps'
+      going-more {par'} {ends'} {stamps'} {b} e far m k = record {
         known = k;
-        ready = ready-more time E position site node i stamps (g .ready) oldest' b e stamps' m;
-        bounded = bounded-more e b;
+        ready = ready-more time E position site node i stamps (g .ready) b far e stamps' m;
       }
 
       -- a mutation's own stamp tells whether it is above an earlier one

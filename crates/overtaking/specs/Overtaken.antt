@@ -14,7 +14,6 @@ use Rattle.ancestry.specs.Column.{Rising}
 use Rattle.overtaking.specs.Known.{Known}
 use Rattle.overtaking.specs.Stamps.{stamped, StampedAbove}
 use Rattle.overtaking.specs.Sites.{From}
-use Rattle.overtaking.specs.Bounds.{BoundedSince, BoundedNext}
 
 -- v is a proper ancestor, at site row s, of the node of one of the first i mutations at that site
 unfoldable pub over : EdgeColumns → List ℕ → List ℕ → List ℕ → ℕ → ℕ → ℕ → Bool
@@ -65,18 +64,15 @@ pub record Ready (time : List ℕ) (E : EdgeColumns) (position site node : List 
 pub record ReadyNext (time : List ℕ) (E : EdgeColumns) (position site node : List ℕ) (i : ℕ) (stamps : List ℕ) : Type 0 where
   pub next : suc i < length site → Ready time E position site node (at site (suc i)) (suc i) stamps
 
--- what is kept before mutation row i, where there is one: the parents known at its site, its site's stamps, and its site's bounds unless
--- the site begins with it
-pub record Going (time : List ℕ) (E : EdgeColumns) (position site node : List ℕ) (i : ℕ) (par until stamps oldest : List ℕ) : Type 0 where
+-- what is kept before mutation row i, where there is one: the parents known at its site, and its site's stamps
+pub record Going (time : List ℕ) (E : EdgeColumns) (position site node : List ℕ) (i : ℕ) (par until stamps : List ℕ) : Type 0 where
   pub known : Known E (at position (at site i)) par until
   pub ready : Ready time E position site node (at site i) i stamps
-  pub bounded : BoundedSince time site node i oldest
 
 -- and after it: the same for the next row, where there is one
-pub record Gone (time : List ℕ) (E : EdgeColumns) (position site node : List ℕ) (i : ℕ) (par until stamps oldest : List ℕ) : Type 0 where
+pub record Gone (time : List ℕ) (E : EdgeColumns) (position site node : List ℕ) (i : ℕ) (par until stamps : List ℕ) : Type 0 where
   pub known : Known E (at position (at site i)) par until
   pub ready : ReadyNext time E position site node i stamps
-  pub bounded : BoundedNext time site node i oldest
 
 -- ---- the mutations in another order, with their rows beside them
 

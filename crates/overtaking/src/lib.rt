@@ -51,7 +51,6 @@ pub fn first_above(
     let mut par = [0u32; NodeTable::MOST];
     let mut until = [0u32; NodeTable::MOST];
     let mut marks = [0u32; NodeTable::MOST];
-    let mut oldest = [0u32; NodeTable::MOST];
     ancestry::index::fill_ends(left, right, parent, child, by_child, &mut ends);
     stamps::lowest_above(
         len,
@@ -68,7 +67,6 @@ pub fn first_above(
         &mut par,
         &mut until,
         &mut marks,
-        &mut oldest,
     )
 }
 
@@ -100,7 +98,6 @@ fn least_by_child(
     let mut par = [0u32; NodeTable::MOST];
     let mut until = [0u32; NodeTable::MOST];
     let mut marks = [0u32; NodeTable::MOST];
-    let mut oldest = [0u32; NodeTable::MOST];
     ancestry::index::fill_ends(left, right, parent, child, by_child, &mut ends);
     stamps::least_above(
         len,
@@ -118,7 +115,6 @@ fn least_by_child(
         &mut par,
         &mut until,
         &mut marks,
-        &mut oldest,
     )
 }
 

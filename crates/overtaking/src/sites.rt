@@ -2,7 +2,7 @@
 ghost use mathlib.Core.Path.{_≡_};
 ghost use Prim.Native.Nat.{ℕ, _<_};
 ghost use lib.ListN.{length};
-ghost use Rattle.overtaking.specs.Sites.{endsSite, youngerFirst, someYoungerFirst, EndFrom};
+ghost use Rattle.overtaking.specs.Sites.{endsSite, youngerFirst, someYoungerFirst};
 ghost use Rattle.overtaking.specs.Overtaken.{Lined};
 
 // Whether mutation row i is the last of its site.
@@ -14,18 +14,6 @@ pub fn ends_site(site: &[u32], i: usize) -> bool
         return true;
     }
     site[i] != site[i + 1]
-}
-
-// The last mutation row of row i's site.
-pub fn last_from(site: &[u32], i: usize) -> usize
-    requires { ⌜ i < length (now site) ⌝ }
-    ensures { λ r. ⌜ EndFrom (now (site .entry)) i r ⌝ }
-{
-    let mut k = i;
-    while !ends_site(site, k) {
-        k += 1;
-    }
-    k
 }
 
 // Whether the node of mutation row i is younger than that of the next row of its site.

@@ -81,21 +81,18 @@ fn stamp_above(
     par: &mut [u32],
     until: &mut [u32],
     stamps: &mut [u32],
-    oldest: &mut [u32],
 )
     requires { ⌜
         Ordered (now time) (edgeTable (now left) (now right) (now parent) (now child)) (now position) (now site) (now node) × Keeping
-        (edgeTable (now left) (now right) (now parent) (now child)) len (length (now time)) (now «by_child») (now ends) (now par) (now until) × (length (now time) ≤ length (now stamps)) × (length (now time) ≤ length (now oldest)) × (i < length (now site)) × Going
-        (now time) (edgeTable (now left) (now right) (now parent) (now child)) (now position) (now site) (now node) i (now par) (now until) (now stamps) (now oldest) ⌝ }
+        (edgeTable (now left) (now right) (now parent) (now child)) len (length (now time)) (now «by_child») (now ends) (now par) (now until) × (length (now time) ≤ length (now stamps)) × (i < length (now site)) × Going
+        (now time) (edgeTable (now left) (now right) (now parent) (now child)) (now position) (now site) (now node) i (now par) (now until) (now stamps) ⌝ }
     ensures { λ _. ⌜
-        Gone (now (time .entry)) (edgeTable (now (left .entry)) (now (right .entry)) (now (parent .entry)) (now (child .entry))) (now (position .entry)) (now (site .entry)) (now (node .entry)) i (now (par .exit)) (now (until .exit)) (now (stamps .exit)) (now (oldest .exit)) ⌝ }
+        Gone (now (time .entry)) (edgeTable (now (left .entry)) (now (right .entry)) (now (parent .entry)) (now (child .entry))) (now (position .entry)) (now (site .entry)) (now (node .entry)) i (now (par .exit)) (now (until .exit)) (now (stamps .exit)) ⌝ }
 {
     if crate::sites::ends_site(site, i) {
         return;
     }
-    crate::bounds::lay_bounds(time, site, node, i, oldest);
     let s = site[i];
-    let u = node[i];
     stamp_up(
         len,
         time,
@@ -107,11 +104,11 @@ fn stamp_above(
         ends,
         position[s as usize],
         s + 1,
-        oldest[u as usize],
+        crate::bounds::oldest_later(time, site, node, i),
         par,
         until,
         stamps,
-        u,
+        node[i],
     );
 }
 
@@ -132,15 +129,14 @@ fn overtakes(
     par: &mut [u32],
     until: &mut [u32],
     stamps: &mut [u32],
-    oldest: &mut [u32],
 ) -> bool
     requires { ⌜
         Ordered (now time) (edgeTable (now left) (now right) (now parent) (now child)) (now position) (now site) (now node) × Keeping
-        (edgeTable (now left) (now right) (now parent) (now child)) len (length (now time)) (now «by_child») (now ends) (now par) (now until) × (length (now time) ≤ length (now stamps)) × (length (now time) ≤ length (now oldest)) × (i < length (now site)) × Going
-        (now time) (edgeTable (now left) (now right) (now parent) (now child)) (now position) (now site) (now node) i (now par) (now until) (now stamps) (now oldest) ⌝ }
+        (edgeTable (now left) (now right) (now parent) (now child)) len (length (now time)) (now «by_child») (now ends) (now par) (now until) × (length (now time) ≤ length (now stamps)) × (i < length (now site)) × Going
+        (now time) (edgeTable (now left) (now right) (now parent) (now child)) (now position) (now site) (now node) i (now par) (now until) (now stamps) ⌝ }
     ensures { λ r. ⌜
         (r ≡ overtaken (edgeTable (now (left .entry)) (now (right .entry)) (now (parent .entry)) (now (child .entry))) (now (position .entry)) (now (site .entry)) (now (node .entry)) i) × Gone
-        (now (time .entry)) (edgeTable (now (left .entry)) (now (right .entry)) (now (parent .entry)) (now (child .entry))) (now (position .entry)) (now (site .entry)) (now (node .entry)) i (now (par .exit)) (now (until .exit)) (now (stamps .exit)) (now (oldest .exit)) ⌝ }
+        (now (time .entry)) (edgeTable (now (left .entry)) (now (right .entry)) (now (parent .entry)) (now (child .entry))) (now (position .entry)) (now (site .entry)) (now (node .entry)) i (now (par .exit)) (now (until .exit)) (now (stamps .exit)) ⌝ }
 {
     let hit = stamps[node[i] as usize] == site[i] + 1;
     stamp_above(
@@ -159,12 +155,11 @@ fn overtakes(
         par,
         until,
         stamps,
-        oldest,
     );
     hit
 }
 
-// The lowest mutation row that is above an earlier one of its site, or the number of rows; par, until, stamps and oldest are working columns.
+// The lowest mutation row that is above an earlier one of its site, or the number of rows; par, until and stamps are working columns.
 pub fn lowest_above(
     len: u32,
     time: &[u32],
@@ -180,11 +175,10 @@ pub fn lowest_above(
     par: &mut [u32],
     until: &mut [u32],
     stamps: &mut [u32],
-    oldest: &mut [u32],
 ) -> usize
     requires { ⌜
         Ordered (now time) (edgeTable (now left) (now right) (now parent) (now child)) (now position) (now site) (now node) × Keeping
-        (edgeTable (now left) (now right) (now parent) (now child)) len (length (now time)) (now «by_child») (now ends) (now par) (now until) × (length (now time) ≤ length (now stamps)) × (length (now time) ≤ length (now oldest)) × ((u : ℕ) → at (now until) u ≡ 0) × ((u : ℕ) → at (now stamps) u ≡ 0) ⌝ }
+        (edgeTable (now left) (now right) (now parent) (now child)) len (length (now time)) (now «by_child») (now ends) (now par) (now until) × (length (now time) ≤ length (now stamps)) × ((u : ℕ) → at (now until) u ≡ 0) × ((u : ℕ) → at (now stamps) u ≡ 0) ⌝ }
     ensures { λ r. ⌜
         r
         ≡ lowest (overtaken (edgeTable (now (left .entry)) (now (right .entry)) (now (parent .entry)) (now (child .entry))) (now (position .entry)) (now (site .entry)) (now (node .entry))) (length (now (site .entry))) ⌝ }
@@ -207,7 +201,6 @@ pub fn lowest_above(
             par,
             until,
             stamps,
-            oldest,
         ) {
             return i;
         }
@@ -245,11 +238,10 @@ pub fn least_above(
     par: &mut [u32],
     until: &mut [u32],
     stamps: &mut [u32],
-    oldest: &mut [u32],
 ) -> usize
     requires { ⌜
         Ordered (now time) (edgeTable (now left) (now right) (now parent) (now child)) (now position) (now site) (now node) × Keeping
-        (edgeTable (now left) (now right) (now parent) (now child)) len (length (now time)) (now «by_child») (now ends) (now par) (now until) × (length (now time) ≤ length (now stamps)) × (length (now time) ≤ length (now oldest)) × (length (now row) ≡ length (now site)) × ((u : ℕ) → at (now until) u ≡ 0) × ((u : ℕ) → at (now stamps) u ≡ 0) ⌝ }
+        (edgeTable (now left) (now right) (now parent) (now child)) len (length (now time)) (now «by_child») (now ends) (now par) (now until) × (length (now time) ≤ length (now stamps)) × (length (now row) ≡ length (now site)) × ((u : ℕ) → at (now until) u ≡ 0) × ((u : ℕ) → at (now stamps) u ≡ 0) ⌝ }
     ensures { λ r. ⌜
         r
         ≡ lowest (overtakenRow (edgeTable (now (left .entry)) (now (right .entry)) (now (parent .entry)) (now (child .entry))) (now (position .entry)) (now (site .entry)) (now (node .entry)) (now (row .entry))) (length (now (site .entry))) ⌝ }
@@ -273,7 +265,6 @@ pub fn least_above(
             par,
             until,
             stamps,
-            oldest,
         );
         least = lower_of(least, row[i] as usize, hit);
         i += 1;

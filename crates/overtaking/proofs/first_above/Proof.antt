@@ -33,26 +33,22 @@ slice-aggregate-lowest-above-3 c = search needs
 slice-aggregate-lowest-above-4 : tie.Need-slice-aggregate-lowest-above-4
 slice-aggregate-lowest-above-4 c = search needs
 
-slice-aggregate-lowest-above-5 : tie.Need-slice-aggregate-lowest-above-5
-slice-aggregate-lowest-above-5 c = search needs
-
 lowest-above-requires : tie.Need-lowest-above-requires
 lowest-above-requires c κs = (
-  record { rising = c .before .before .before .before .before .before .before .before .before .before .before .before .before .before .before .before .before .before .before .before .pre .3; rightwards = c .before .before .before .before .before .before .before .before .before .before .before .before .before .before .before .before .before .before .before .before .pre .6; lined = c .before .before .before .before .before .before .before .before .before .before .before .before .before .before .before .before .before .before .before .before .pre .7; few = omega (arith, c .before .before .before .before .before .before .before .before .before .before .before .before .before .before .before .before .before .before .before .before .pre .0); few-sites = omega (arith, c .before .before .before .before .before .before .before .before .before .before .before .before .before .before .before .before .before .before .before .before .pre .2) },
+  record { rising = c .before .before .before .before .before .before .before .before .before .before .before .before .before .before .before .before .before .before .before .pre .3; rightwards = c .before .before .before .before .before .before .before .before .before .before .before .before .before .before .before .before .before .before .before .pre .6; lined = c .before .before .before .before .before .before .before .before .before .before .before .before .before .before .before .before .before .before .before .pre .7; few = omega (arith, c .before .before .before .before .before .before .before .before .before .before .before .before .before .before .before .before .before .before .before .pre .0); few-sites = omega (arith, c .before .before .before .before .before .before .before .before .before .before .before .before .before .before .before .before .before .before .before .pre .2) },
   record {
-    indexed = record { even = c .before .before .before .before .before .before .before .before .before .before .before .before .before .before .before .before .before .before .before .before .pre .3 .even; whole = c .before .before .before .before .before .before .before .before .before .before .before .before .before .before .before .before .before .before .before .before .pre .4; order = c .before .before .before .before .before .before .before .before .before .before .before .before .before .before .before .before .before .before .before .before .pre .5; ends = c .before .before .before .before .before .before .fill-ends .ensures };
-    ends-long = omega (arith, c .before .before .before .before .before .before .before .before .before .before .before .before .before .before .before .before .before .before .before .before .pre .0, c .before .before .before .before .before .before .fill-ends .kept .1 .1 .1 .1 .1 .0);
-    par-long = omega (arith, c .before .before .before .before .before .before .before .before .before .before .before .before .before .before .before .before .before .before .before .before .pre .0);
+    indexed = record { even = c .before .before .before .before .before .before .before .before .before .before .before .before .before .before .before .before .before .before .before .pre .3 .even; whole = c .before .before .before .before .before .before .before .before .before .before .before .before .before .before .before .before .before .before .before .pre .4; order = c .before .before .before .before .before .before .before .before .before .before .before .before .before .before .before .before .before .before .before .pre .5; ends = c .before .before .before .before .before .fill-ends .ensures };
+    ends-long = omega (arith, c .before .before .before .before .before .before .before .before .before .before .before .before .before .before .before .before .before .before .before .pre .0, c .before .before .before .before .before .fill-ends .kept .1 .1 .1 .1 .1 .0);
+    par-long = omega (arith, c .before .before .before .before .before .before .before .before .before .before .before .before .before .before .before .before .before .before .before .pre .0);
     until-long = refl;
   },
-  omega (arith, c .before .before .before .before .before .before .before .before .before .before .before .before .before .before .before .before .before .before .before .before .pre .0),
-  omega (arith, c .before .before .before .before .before .before .before .before .before .before .before .before .before .before .before .before .before .before .before .before .pre .0),
+  omega (arith, c .before .before .before .before .before .before .before .before .before .before .before .before .before .before .before .before .before .before .before .pre .0),
   zeros 1024,
   zeros 1024,
 )
 
 returns-2 : tie.Need-returns-2
-returns-2 c = c .before .before .before .before .lowest-above .ensures ∙ lowest-10 _ _ _ _
+returns-2 c = c .before .before .before .lowest-above .ensures ∙ lowest-10 _ _ _ _
 
 pub first-above-spec : {M : Type 1} → statement M
 first-above-spec =
@@ -66,6 +62,5 @@ first-above-spec =
     slice-aggregate-lowest-above-2
     slice-aggregate-lowest-above-3
     slice-aggregate-lowest-above-4
-    slice-aggregate-lowest-above-5
     lowest-above-requires
     returns-2)

@@ -24,27 +24,23 @@ slice-aggregate-least-above-3 c = search needs
 slice-aggregate-least-above-4 : tie.Need-slice-aggregate-least-above-4
 slice-aggregate-least-above-4 c = search needs
 
-slice-aggregate-least-above-5 : tie.Need-slice-aggregate-least-above-5
-slice-aggregate-least-above-5 c = search needs
-
 least-above-requires : tie.Need-least-above-requires
 least-above-requires c κs = (
-  record { rising = c .before .before .before .before .before .before .before .before .before .before .before .before .before .before .before .before .before .before .pre .3; rightwards = c .before .before .before .before .before .before .before .before .before .before .before .before .before .before .before .before .before .before .pre .6; lined = c .before .before .before .before .before .before .before .before .before .before .before .before .before .before .before .before .before .before .pre .7; few = omega (arith, c .before .before .before .before .before .before .before .before .before .before .before .before .before .before .before .before .before .before .pre .0); few-sites = omega (arith, c .before .before .before .before .before .before .before .before .before .before .before .before .before .before .before .before .before .before .pre .2) },
+  record { rising = c .before .before .before .before .before .before .before .before .before .before .before .before .before .before .before .before .before .pre .3; rightwards = c .before .before .before .before .before .before .before .before .before .before .before .before .before .before .before .before .before .pre .6; lined = c .before .before .before .before .before .before .before .before .before .before .before .before .before .before .before .before .before .pre .7; few = omega (arith, c .before .before .before .before .before .before .before .before .before .before .before .before .before .before .before .before .before .pre .0); few-sites = omega (arith, c .before .before .before .before .before .before .before .before .before .before .before .before .before .before .before .before .before .pre .2) },
   record {
-    indexed = record { even = c .before .before .before .before .before .before .before .before .before .before .before .before .before .before .before .before .before .before .pre .3 .even; whole = c .before .before .before .before .before .before .before .before .before .before .before .before .before .before .before .before .before .before .pre .4; order = c .before .before .before .before .before .before .before .before .before .before .before .before .before .before .before .before .before .before .pre .5; ends = c .before .before .before .before .before .before .fill-ends .ensures };
-    ends-long = omega (arith, c .before .before .before .before .before .before .before .before .before .before .before .before .before .before .before .before .before .before .pre .0, c .before .before .before .before .before .before .fill-ends .kept .1 .1 .1 .1 .1 .0);
-    par-long = omega (arith, c .before .before .before .before .before .before .before .before .before .before .before .before .before .before .before .before .before .before .pre .0);
+    indexed = record { even = c .before .before .before .before .before .before .before .before .before .before .before .before .before .before .before .before .before .pre .3 .even; whole = c .before .before .before .before .before .before .before .before .before .before .before .before .before .before .before .before .before .pre .4; order = c .before .before .before .before .before .before .before .before .before .before .before .before .before .before .before .before .before .pre .5; ends = c .before .before .before .before .before .fill-ends .ensures };
+    ends-long = omega (arith, c .before .before .before .before .before .before .before .before .before .before .before .before .before .before .before .before .before .pre .0, c .before .before .before .before .before .fill-ends .kept .1 .1 .1 .1 .1 .0);
+    par-long = omega (arith, c .before .before .before .before .before .before .before .before .before .before .before .before .before .before .before .before .before .pre .0);
     until-long = refl;
   },
-  omega (arith, c .before .before .before .before .before .before .before .before .before .before .before .before .before .before .before .before .before .before .pre .0),
-  omega (arith, c .before .before .before .before .before .before .before .before .before .before .before .before .before .before .before .before .before .before .pre .0),
-  c .before .before .before .before .before .before .before .before .before .before .before .before .before .before .before .before .before .before .pre .8,
+  omega (arith, c .before .before .before .before .before .before .before .before .before .before .before .before .before .before .before .before .before .pre .0),
+  c .before .before .before .before .before .before .before .before .before .before .before .before .before .before .before .before .before .pre .8,
   zeros 1024,
   zeros 1024,
 )
 
 returns : tie.Need-returns
-returns c = c .before .before .before .before .least-above .ensures
+returns c = c .before .before .before .least-above .ensures
 
 pub least-by-child-spec : {M : Type 1} → statement M
 least-by-child-spec =
@@ -56,6 +52,5 @@ least-by-child-spec =
     slice-aggregate-least-above-2
     slice-aggregate-least-above-3
     slice-aggregate-least-above-4
-    slice-aggregate-least-above-5
     least-above-requires
     returns)

@@ -13,39 +13,39 @@ use Rattle.overtaking.proofs.stamps.least_above.Statement.{statement}
 use Rattle.overtaking.proofs.stamps.least_above.Tie as tie
 
 abbrev Inv-loop : tie.InvT-loop
-Inv-loop len time left right parent child by-child ends position site node row par₀ until₀ stamps₀ oldest₀ least₀ i₀ par until stamps oldest least i =
-    (i ≤ length site) × Least (overtaken (edgeTable left right parent child) position site node) row (length site) i least × (length par ≡ length par₀) × (length until ≡ length until₀) × (length stamps ≡ length stamps₀) × (length oldest ≡ length oldest₀) × (i < length site → Going time (edgeTable left right parent child) position site node i par until stamps oldest)
+Inv-loop len time left right parent child by-child ends position site node row par₀ until₀ stamps₀ least₀ i₀ par until stamps least i =
+    (i ≤ length site) × Least (overtaken (edgeTable left right parent child) position site node) row (length site) i least × (length par ≡ length par₀) × (length until ≡ length until₀) × (length stamps ≡ length stamps₀) × (i < length site → Going time (edgeTable left right parent child) position site node i par until stamps)
 
 abbrev μ-loop : tie.MeasureT-loop
-μ-loop len time left right parent child by-child ends position site node row par₀ until₀ stamps₀ oldest₀ least₀ i₀ par until stamps oldest least i =
+μ-loop len time left right parent child by-child ends position site node row par₀ until₀ stamps₀ least₀ i₀ par until stamps least i =
     length site - i
 
 loop-holds : tie.Need-loop-holds Inv-loop μ-loop
-loop-holds c = (search needs, least-start _ _ _, refl, refl, refl, refl, λ h. going-start _ _ _ _ (c .before .before .before .before .before .before .before .before .before .before .before .before .before .before .before .pre .5) (c .before .before .before .before .before .before .before .before .before .before .before .before .before .before .before .pre .6))
+loop-holds c = (search needs, least-start _ _ _, refl, refl, refl, λ h. going-start _ _ _ (c .before .before .before .before .before .before .before .before .before .before .before .before .before .before .pre .4) (c .before .before .before .before .before .before .before .before .before .before .before .before .before .before .pre .5))
 
 overtakes-requires : tie.Need-overtakes-requires Inv-loop μ-loop
-overtakes-requires c κs = (c .before .before .before .before .before .before .before .before .before .before .before .before .before .before .before .before .before .before .before .before .before .pre .0, still-keeping (c .before .before .before .before .before .loop .inv .2) (c .before .before .before .before .before .loop .inv .3) (c .before .before .before .before .before .before .before .before .before .before .before .before .before .before .before .before .before .before .before .before .before .pre .1), omega (arith, c .before .before .before .before .before .before .before .before .before .before .before .before .before .before .before .before .before .before .before .before .before .pre .2, c .before .before .before .before .before .loop .inv .4), omega (arith, c .before .before .before .before .before .before .before .before .before .before .before .before .before .before .before .before .before .before .before .before .before .pre .3, c .before .before .before .before .before .loop .inv .5), c .before .before .before .before .loop-test .taken, c .before .before .before .before .before .loop .inv .6 (c .before .before .before .before .loop-test .taken))
+overtakes-requires c κs = (c .before .before .before .before .before .before .before .before .before .before .before .before .before .before .before .before .before .before .before .pre .0, still-keeping (c .before .before .before .before .loop .inv .2) (c .before .before .before .before .loop .inv .3) (c .before .before .before .before .before .before .before .before .before .before .before .before .before .before .before .before .before .before .before .pre .1), omega (arith, c .before .before .before .before .before .before .before .before .before .before .before .before .before .before .before .before .before .before .before .pre .2, c .before .before .before .before .loop .inv .4), c .before .before .before .loop-test .taken, c .before .before .before .before .loop .inv .5 (c .before .before .before .loop-test .taken))
 
 mul-lower-of : tie.Need-mul-lower-of Inv-loop μ-loop
-mul-lower-of c = omega (arith, c .before .before .before .before .before .before .before .before .before .before .before .before .before .before .before .before .before .before .before .before .before .before .before .before .before .before .before .before .before .before .pre .4, c .before .before .before .before .before .before .before .before .before .before .before .before .before .loop-test .taken, c .before .before .before .before .before .before .before .before .before .before .before .before .before .before .before .before .before .before .before .before .before .before .before .before .before .before .before .before .before .before .good)
+mul-lower-of c = omega (arith, c .before .before .before .before .before .before .before .before .before .before .before .before .before .before .before .before .before .before .before .before .before .before .before .before .before .before .pre .3, c .before .before .before .before .before .before .before .before .before .before .loop-test .taken, c .before .before .before .before .before .before .before .before .before .before .before .before .before .before .before .before .before .before .before .before .before .before .before .before .before .before .good)
 
 shared-slice-read-lower-of : tie.Need-shared-slice-read-lower-of Inv-loop μ-loop
-shared-slice-read-lower-of c = omega (arith, c .before .before .before .before .before .before .before .before .before .before .before .before .before .before .before .before .before .before .before .before .before .before .before .before .before .before .before .before .before .before .before .pre .4, c .before .before .before .before .before .before .before .before .before .before .before .before .before .before .loop-test .taken)
+shared-slice-read-lower-of c = omega (arith, c .before .before .before .before .before .before .before .before .before .before .before .before .before .before .before .before .before .before .before .before .before .before .before .before .before .before .before .pre .3, c .before .before .before .before .before .before .before .before .before .before .before .loop-test .taken)
 
 cast-lower-of : tie.Need-cast-lower-of Inv-loop μ-loop
-cast-lower-of c = omega (arith, c .shared-slice-known12 .given (c .before .before .before .before .before .before .before .before .before .before .before .before .before .before .before .loop .i))
+cast-lower-of c = omega (arith, c .shared-slice-known12 .given (c .before .before .before .before .before .before .before .before .before .before .before .before .loop .i))
 
 lower-of-requires : tie.Need-lower-of-requires Inv-loop μ-loop
 lower-of-requires c κs = search needs
 
 add-i : tie.Need-add-i Inv-loop μ-loop
-add-i c = omega (arith, c .before .before .before .before .before .before .before .before .before .before .before .before .before .before .before .loop-test .taken, c .before .before .before .before .before .before .before .before .before .before .before .before .before .before .before .before .before .before .before .before .before .before .before .before .before .before .before .before .before .before .before .before .good)
+add-i c = omega (arith, c .before .before .before .before .before .before .before .before .before .before .before .before .loop-test .taken, c .before .before .before .before .before .before .before .before .before .before .before .before .before .before .before .before .before .before .before .before .before .before .before .before .before .before .before .before .good)
 
 loop-less : tie.Need-loop-less Inv-loop μ-loop
 loop-less c = search needs
 
 loop-again : tie.Need-loop-again Inv-loop μ-loop
-loop-again c = (search needs, least-is (c .lower-of .ensures) (least-next (c .before .before .before .before .before .before .before .before .before .before .before .before .before .before .before .before .loop .inv .1) _ (c .before .before .before .before .before .before .before .before .before .before .overtakes .ensures .0)), search needs, search needs, search needs, search needs, going-next (c .before .before .before .before .before .before .before .before .before .before .before .before .before .before .before .before .before .before .before .before .before .before .before .before .before .before .before .before .before .before .before .before .pre .0) (c .before .before .before .before .before .before .before .before .before .before .overtakes .ensures .1))
+loop-again c = (search needs, least-is (c .lower-of .ensures) (least-next (c .before .before .before .before .before .before .before .before .before .before .before .before .before .loop .inv .1) _ (c .before .before .before .before .before .before .before .before .overtakes .ensures .0)), search needs, search needs, search needs, going-next (c .before .before .before .before .before .before .before .before .before .before .before .before .before .before .before .before .before .before .before .before .before .before .before .before .before .before .before .before .pre .0) (c .before .before .before .before .before .before .before .before .overtakes .ensures .1))
 
 same-length : tie.Need-same-length Inv-loop μ-loop
 same-length c = search needs
@@ -55,9 +55,6 @@ same-length-2 c = search needs
 
 same-length-3 : tie.Need-same-length-3 Inv-loop μ-loop
 same-length-3 c = search needs
-
-same-length-4 : tie.Need-same-length-4 Inv-loop μ-loop
-same-length-4 c = search needs
 
 returns : tie.Need-returns Inv-loop μ-loop
 returns c = least-stop _ _ _ _ _ _ _ (c .before .loop .inv .0) (c .loop-test .left) (c .before .loop .inv .1)
@@ -80,5 +77,4 @@ least-above-spec =
     same-length
     same-length-2
     same-length-3
-    same-length-4
     returns)
