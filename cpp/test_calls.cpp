@@ -246,6 +246,28 @@ Record marked_line(std::uint32_t nodes, std::uint32_t older) {
     return r;
 }
 
+// A line of nodes and one node beside it that is older than all; the first mutation of the site is on the lowest node, the second on the one
+// beside. So the younger one comes first, and rule 10 has to go up the whole line.
+Record younger_first(std::uint32_t nodes) {
+    Record r = line(nodes - 1);
+    r.tables.nodes.add(nodes, nodes);
+    r.tables.sites.add(0, 'A');
+    r.tables.mutations.add(0, 0, 'C');
+    r.tables.mutations.add(0, nodes - 1, 'G');
+    return r;
+}
+
+// The same line as a batch, whose edges and mutations name birth numbers: rule 26 goes up it.
+Batch as_batch(const Record &r) {
+    Batch b;
+    b.nodes = r.tables.nodes;
+    b.edges = r.tables.edges;
+    b.mutations = r.tables.mutations;
+    for (std::vector<std::uint32_t> *rows : {&b.edges.parent, &b.edges.child, &b.mutations.node})
+        for (std::uint32_t &row : *rows) row = r.tables.nodes.birth[row];
+    return b;
+}
+
 // The deepest and broadest calls that we know how to make.
 std::vector<Call> deep_calls() {
     Random random(11);
@@ -263,11 +285,16 @@ std::vector<Call> deep_calls() {
         calls.emplace_back(kind, "a broad record", broad, random_batch(random, broad));
         calls.emplace_back(kind, "two samples in turns under a line", hung, random_batch(random, hung));
         calls.emplace_back(kind, "two mutations below a line (10)", marked_line(FFR_MOST_NODES, 0), Batch{});
+        calls.emplace_back(kind, "the younger mutation first, below a line (10)", younger_first(FFR_MOST_NODES), Batch{});
         calls.emplace_back(kind, "one parent in many pieces", pieces_of_one_parent(256, 15, 512), Batch{});
     }
     Record above = marked_line(FFR_MOST_NODES - 1, 1);
     above.tables.mutations = {};
     calls.emplace_back(2, "two mutations below a line (26)", above, lowest);
+    Record sites_only;
+    sites_only.length = 7;
+    sites_only.tables.sites.add(0, 'A');
+    calls.emplace_back(2, "the younger mutation first, below a line (26)", sites_only, as_batch(younger_first(FFR_MOST_NODES)));
     return calls;
 }
 
