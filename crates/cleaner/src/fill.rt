@@ -11,6 +11,7 @@ ghost use Rattle.runs.specs.Runs.{Store};
 ghost use Rattle.sweep.specs.Sweeping.{Done};
 ghost use Rattle.cleaner.specs.Sweeping.{Sweepable};
 ghost use Rattle.cleaner.specs.Finishing.{Fillable, Filled};
+ghost use Rattle.sweep.specs.Columns.{inputOf, movesOf, storeOf};
 
 // The first k cells of four columns, to the fronts of four.
 fn copy_edges(
@@ -24,8 +25,20 @@ fn copy_edges(
     out_parent: &mut [u32],
     out_child: &mut [u32],
 )
-    requires { ⌜ (k ≤ length (now fl)) × (k ≤ length (now fr)) × (k ≤ length (now fp)) × (k ≤ length (now fc)) × (k ≤ length (now «out_left»)) × (k ≤ length (now «out_right»)) × (k ≤ length (now «out_parent»)) × (k ≤ length (now «out_child»)) ⌝ }
-    ensures { λ _. ⌜ (now («out_left» .exit) ≡ put (take k (now (fl .entry))) (now («out_left» .entry))) × (now («out_right» .exit) ≡ put (take k (now (fr .entry))) (now («out_right» .entry))) × (now («out_parent» .exit) ≡ put (take k (now (fp .entry))) (now («out_parent» .entry))) × (now («out_child» .exit) ≡ put (take k (now (fc .entry))) (now («out_child» .entry))) ⌝ }
+    requires { ⌜
+        (k ≤ length (now fl)) ×
+        (k ≤ length (now fr)) ×
+        (k ≤ length (now fp)) ×
+        (k ≤ length (now fc)) ×
+        (k ≤ length (now «out_left»)) ×
+        (k ≤ length (now «out_right»)) ×
+        (k ≤ length (now «out_parent»)) ×
+        (k ≤ length (now «out_child»)) ⌝ }
+    ensures { λ _. ⌜
+        (now («out_left» .exit) ≡ put (take k (now (fl .entry))) (now («out_left» .entry))) ×
+        (now («out_right» .exit) ≡ put (take k (now (fr .entry))) (now («out_right» .entry))) ×
+        (now («out_parent» .exit) ≡ put (take k (now (fp .entry))) (now («out_parent» .entry))) ×
+        (now («out_child» .exit) ≡ put (take k (now (fc .entry))) (now («out_child» .entry))) ⌝ }
 {
     writing::copy(fl, k, out_left);
     writing::copy(fr, k, out_right);
@@ -57,8 +70,31 @@ fn again(
     out_site: &mut [u32],
     out_node: &mut [u32],
 )
-    requires { ⌜ Sweepable len (record { time = now time; sample = take (length (now time)) (now sample); left = now left; right = now right; parent = now parent; child = now child; by-left = take (length (now left)) (now bl); by-right = take (length (now left)) (now br); position = now position; site = now site; node = now node }) × (length (now time) ≤ length (now sample)) × (length (now left) ≤ length (now bl)) × (length (now left) ≤ length (now br)) × (length (now time) ≤ length (now stood)) × (edges ≤ length (now «out_left»)) × (edges ≤ length (now «out_right»)) × (edges ≤ length (now «out_parent»)) × (edges ≤ length (now «out_child»)) × (mutations ≤ length (now «out_site»)) × (mutations ≤ length (now «out_node»)) ⌝ }
-    ensures { λ _. ⌜ ((Q : List ℕ) → edges ≤ suc (limits .edges) → Flags (take (length (now (time .entry))) (now (sample .entry))) Q (length (now (time .entry))) → Filled len (record { time = now (time .entry); sample = take (length (now (time .entry))) (now (sample .entry)); left = now (left .entry); right = now (right .entry); parent = now (parent .entry); child = now (child .entry); by-left = take (length (now (left .entry))) (now (bl .entry)); by-right = take (length (now (left .entry))) (now (br .entry)); position = now (position .entry); site = now (site .entry); node = now (node .entry) }) Q edges mutations (edgeTable (now («out_left» .entry)) (now («out_right» .entry)) (now («out_parent» .entry)) (now («out_child» .entry))) (edgeTable (now («out_left» .exit)) (now («out_right» .exit)) (now («out_parent» .exit)) (now («out_child» .exit))) (now («out_site» .entry)) (now («out_site» .exit)) (now («out_node» .entry)) (now («out_node» .exit))) ⌝ }
+    requires { ⌜
+        Sweepable len
+        (inputOf (now time) (take (length (now time)) (now sample)) (now left) (now right) (now parent) (now child) (take (length (now left)) (now bl))
+        (take (length (now left)) (now br)) (now position) (now site) (now node)) ×
+        (length (now time) ≤ length (now sample)) ×
+        (length (now left) ≤ length (now bl)) ×
+        (length (now left) ≤ length (now br)) ×
+        (length (now time) ≤ length (now stood)) ×
+        (edges ≤ length (now «out_left»)) ×
+        (edges ≤ length (now «out_right»)) ×
+        (edges ≤ length (now «out_parent»)) ×
+        (edges ≤ length (now «out_child»)) ×
+        (mutations ≤ length (now «out_site»)) ×
+        (mutations ≤ length (now «out_node»)) ⌝ }
+    ensures { λ _. ⌜
+        ((Q : List ℕ) →
+        edges ≤ suc (limits .edges) →
+        Flags (take (length (now (time .entry))) (now (sample .entry))) Q (length (now (time .entry))) →
+        Filled len
+        (inputOf (now (time .entry)) (take (length (now (time .entry))) (now (sample .entry))) (now (left .entry)) (now (right .entry))
+        (now (parent .entry)) (now (child .entry)) (take (length (now (left .entry))) (now (bl .entry)))
+        (take (length (now (left .entry))) (now (br .entry))) (now (position .entry)) (now (site .entry)) (now (node .entry)))
+        Q edges mutations (edgeTable (now («out_left» .entry)) (now («out_right» .entry)) (now («out_parent» .entry)) (now («out_child» .entry)))
+        (edgeTable (now («out_left» .exit)) (now («out_right» .exit)) (now («out_parent» .exit)) (now («out_child» .exit))) (now («out_site» .entry))
+        (now («out_site» .exit)) (now («out_node» .entry)) (now («out_node» .exit))) ⌝ }
 {
     let n = time.len();
     let e = left.len();
@@ -115,8 +151,33 @@ pub fn fill(
     out_site: &mut [u32],
     out_node: &mut [u32],
 )
-    requires { ⌜ Sweepable len (record { time = now time; sample = take (length (now time)) (now sample); left = now left; right = now right; parent = now parent; child = now child; by-left = take (length (now left)) (now bl); by-right = take (length (now left)) (now br); position = now position; site = now site; node = now node }) × (length (now time) ≤ length (now sample)) × (length (now left) ≤ length (now bl)) × (length (now left) ≤ length (now br)) × Fillable (length (now time)) edges mutations (now stood) (edgeTable (now fl) (now fr) (now fp) (now fc)) (record { row = now mrow; low = now mlow; count = mutations }) (edgeTable (now «out_left») (now «out_right») (now «out_parent») (now «out_child»)) (now «out_site») (now «out_node») ⌝ }
-    ensures { λ _. ⌜ ((Q : List ℕ) (D : Store) (M : Moves) → Flags (take (length (now (time .entry))) (now (sample .entry))) Q (length (now (time .entry))) → Done len (record { time = now (time .entry); sample = take (length (now (time .entry))) (now (sample .entry)); left = now (left .entry); right = now (right .entry); parent = now (parent .entry); child = now (child .entry); by-left = take (length (now (left .entry))) (now (bl .entry)); by-right = take (length (now (left .entry))) (now (br .entry)); position = now (position .entry); site = now (site .entry); node = now (node .entry) }) Q D M (record { left = now (fl .entry); right = now (fr .entry); parent = now (fp .entry); child = now (fc .entry); stood = take (length (now (time .entry))) (now (stood .entry)); count = edges }) (record { row = now (mrow .entry); low = now (mlow .entry); count = mutations }) → Filled len (record { time = now (time .entry); sample = take (length (now (time .entry))) (now (sample .entry)); left = now (left .entry); right = now (right .entry); parent = now (parent .entry); child = now (child .entry); by-left = take (length (now (left .entry))) (now (bl .entry)); by-right = take (length (now (left .entry))) (now (br .entry)); position = now (position .entry); site = now (site .entry); node = now (node .entry) }) Q edges mutations (edgeTable (now («out_left» .entry)) (now («out_right» .entry)) (now («out_parent» .entry)) (now («out_child» .entry))) (edgeTable (now («out_left» .exit)) (now («out_right» .exit)) (now («out_parent» .exit)) (now («out_child» .exit))) (now («out_site» .entry)) (now («out_site» .exit)) (now («out_node» .entry)) (now («out_node» .exit))) ⌝ }
+    requires { ⌜
+        Sweepable len
+        (inputOf (now time) (take (length (now time)) (now sample)) (now left) (now right) (now parent) (now child) (take (length (now left)) (now bl))
+        (take (length (now left)) (now br)) (now position) (now site) (now node)) ×
+        (length (now time) ≤ length (now sample)) ×
+        (length (now left) ≤ length (now bl)) ×
+        (length (now left) ≤ length (now br)) ×
+        Fillable (length (now time)) edges mutations (now stood) (edgeTable (now fl) (now fr) (now fp) (now fc))
+        (movesOf (now mrow) (now mlow) mutations) (edgeTable (now «out_left») (now «out_right») (now «out_parent») (now «out_child»)) (now «out_site»)
+        (now «out_node») ⌝ }
+    ensures { λ _. ⌜
+        ((Q : List ℕ) (D : Store) (M : Moves) →
+        Flags (take (length (now (time .entry))) (now (sample .entry))) Q (length (now (time .entry))) →
+        Done len
+        (inputOf (now (time .entry)) (take (length (now (time .entry))) (now (sample .entry))) (now (left .entry)) (now (right .entry))
+        (now (parent .entry)) (now (child .entry)) (take (length (now (left .entry))) (now (bl .entry)))
+        (take (length (now (left .entry))) (now (br .entry))) (now (position .entry)) (now (site .entry)) (now (node .entry)))
+        Q D M
+        (storeOf (now (fl .entry)) (now (fr .entry)) (now (fp .entry)) (now (fc .entry)) (take (length (now (time .entry))) (now (stood .entry))) edges)
+        (movesOf (now (mrow .entry)) (now (mlow .entry)) mutations) →
+        Filled len
+        (inputOf (now (time .entry)) (take (length (now (time .entry))) (now (sample .entry))) (now (left .entry)) (now (right .entry))
+        (now (parent .entry)) (now (child .entry)) (take (length (now (left .entry))) (now (bl .entry)))
+        (take (length (now (left .entry))) (now (br .entry))) (now (position .entry)) (now (site .entry)) (now (node .entry)))
+        Q edges mutations (edgeTable (now («out_left» .entry)) (now («out_right» .entry)) (now («out_parent» .entry)) (now («out_child» .entry)))
+        (edgeTable (now («out_left» .exit)) (now («out_right» .exit)) (now («out_parent» .exit)) (now («out_child» .exit))) (now («out_site» .entry))
+        (now («out_site» .exit)) (now («out_node» .entry)) (now («out_node» .exit))) ⌝ }
 {
     if edges <= fl.len() {
         if mutations <= mrow.len() {

@@ -31,8 +31,19 @@ fn reorder_edges(
     k: usize,
     spare: &mut [u32],
 )
-    requires { ⌜ (k ≤ length (now order)) × (k ≤ length (now spare)) × (k ≤ length (now left)) × (k ≤ length (now right)) × (k ≤ length (now parent)) × (k ≤ length (now child)) × Inside k (take k (now order)) ⌝ }
-    ensures { λ _. ⌜ (now (left .exit) ≡ put (map (at (now (left .entry))) (take k (now (order .entry)))) (now (left .entry))) × (now (right .exit) ≡ put (map (at (now (right .entry))) (take k (now (order .entry)))) (now (right .entry))) × (now (parent .exit) ≡ put (map (at (now (parent .entry))) (take k (now (order .entry)))) (now (parent .entry))) × (now (child .exit) ≡ put (map (at (now (child .entry))) (take k (now (order .entry)))) (now (child .entry))) ⌝ }
+    requires { ⌜
+        (k ≤ length (now order)) ×
+        (k ≤ length (now spare)) ×
+        (k ≤ length (now left)) ×
+        (k ≤ length (now right)) ×
+        (k ≤ length (now parent)) ×
+        (k ≤ length (now child)) ×
+        Inside k (take k (now order)) ⌝ }
+    ensures { λ _. ⌜
+        (now (left .exit) ≡ put (map (at (now (left .entry))) (take k (now (order .entry)))) (now (left .entry))) ×
+        (now (right .exit) ≡ put (map (at (now (right .entry))) (take k (now (order .entry)))) (now (right .entry))) ×
+        (now (parent .exit) ≡ put (map (at (now (parent .entry))) (take k (now (order .entry)))) (now (parent .entry))) ×
+        (now (child .exit) ≡ put (map (at (now (child .entry))) (take k (now (order .entry)))) (now (child .entry))) ⌝ }
 {
     reorder(left, order, k, spare);
     reorder(right, order, k, spare);
@@ -54,8 +65,25 @@ pub fn finish_edges(
     order: &mut [u32],
     spare: &mut [u32],
 )
-    requires { ⌜ (length (now birth) ≡ length (now time)) × (length (now time) ≤ 1024) × Ranked (now birth) (now «by_birth») × Apart (now birth) × (k ≤ length (now left)) × (k ≤ length (now right)) × (k ≤ length (now parent)) × (k ≤ length (now child)) × (k ≤ length (now order)) × (k ≤ length (now spare)) × (k ≤ 4294967295) × Inside (length (now time)) (take k (now parent)) × Inside (length (now time)) (take k (now child)) × InTurns (now left) (now child) k ⌝ }
-    ensures { λ _. ⌜ EdgesDone (nodeTable (now (time .entry)) (now (birth .entry))) (now (places .entry)) k (edgeTable (now (left .entry)) (now (right .entry)) (now (parent .entry)) (now (child .entry))) (edgeTable (now (left .exit)) (now (right .exit)) (now (parent .exit)) (now (child .exit))) ⌝ }
+    requires { ⌜
+        (length (now birth) ≡ length (now time)) ×
+        (length (now time) ≤ 1024) ×
+        Ranked (now birth) (now «by_birth») ×
+        Apart (now birth) ×
+        (k ≤ length (now left)) ×
+        (k ≤ length (now right)) ×
+        (k ≤ length (now parent)) ×
+        (k ≤ length (now child)) ×
+        (k ≤ length (now order)) ×
+        (k ≤ length (now spare)) ×
+        (k ≤ 4294967295) ×
+        Inside (length (now time)) (take k (now parent)) ×
+        Inside (length (now time)) (take k (now child)) ×
+        InTurns (now left) (now child) k ⌝ }
+    ensures { λ _. ⌜
+        EdgesDone (nodeTable (now (time .entry)) (now (birth .entry))) (now (places .entry)) k
+        (edgeTable (now (left .entry)) (now (right .entry)) (now (parent .entry)) (now (child .entry)))
+        (edgeTable (now (left .exit)) (now (right .exit)) (now (parent .exit)) (now (child .exit))) ⌝ }
 {
     keys::order_edges(time, birth, by_birth, parent, child, k, order, spare);
     reorder_edges(left, right, parent, child, order, k, spare);
@@ -73,8 +101,14 @@ pub fn finish_mutations(
     out_node: &mut [u32],
     out_derived: &mut [u8],
 )
-    requires { ⌜ (k ≤ length (now «out_site»)) × (k ≤ length (now «out_node»)) × (k ≤ length (now «out_derived»)) × Inside (length (now derived)) (take k (now «out_site»)) ⌝ }
-    ensures { λ _. ⌜ MutationsDone (now (places .entry)) (now (site .entry)) (now (derived .entry)) k (now («out_site» .entry)) (now («out_node» .entry)) (now («out_derived» .entry)) (now («out_site» .exit)) (now («out_node» .exit)) (now («out_derived» .exit)) ⌝ }
+    requires { ⌜
+        (k ≤ length (now «out_site»)) ×
+        (k ≤ length (now «out_node»)) ×
+        (k ≤ length (now «out_derived»)) ×
+        Inside (length (now derived)) (take k (now «out_site»)) ⌝ }
+    ensures { λ _. ⌜
+        MutationsDone (now (places .entry)) (now (site .entry)) (now (derived .entry)) k (now («out_site» .entry)) (now («out_node» .entry))
+        (now («out_derived» .entry)) (now («out_site» .exit)) (now («out_node» .exit)) (now («out_derived» .exit)) ⌝ }
 {
     writing::gather_states(derived, out_site, k, out_derived);
     writing::rename(site, out_site, k);

@@ -11,7 +11,9 @@ ghost use Rattle.cleaner.specs.Tracing.{KeptRows};
 // A table's rows in the order of a key column.
 pub fn ranked(key: &[u32], idx: &mut [u32])
     requires { ⌜ (length (now idx) ≡ length (now key)) × (length (now key) ≤ 4294967296) ⌝ }
-    ensures { λ _. ⌜ SortedFrom (byKeys (now (key .entry)) (now (key .entry)) (now (key .entry)) (now (key .entry))) (rows (λ i. i) (length (now (key .entry)))) (now (idx .exit)) ⌝ }
+    ensures { λ _. ⌜
+        SortedFrom (byKeys (now (key .entry)) (now (key .entry)) (now (key .entry)) (now (key .entry))) (rows (λ i. i) (length (now (key .entry))))
+        (now (idx .exit)) ⌝ }
 {
     order::iota(idx);
     order::sort_one(key, idx);
@@ -34,7 +36,9 @@ fn iota_down(idx: &mut [u32])
 // the older parent then comes first, and what enters the tree dead costs nothing.
 pub fn ranked_down(key: &[u32], idx: &mut [u32])
     requires { ⌜ (length (now idx) ≡ length (now key)) × (length (now key) ≤ 4294967296) ⌝ }
-    ensures { λ _. ⌜ SortedFrom (byKeys (now (key .entry)) (now (key .entry)) (now (key .entry)) (now (key .entry))) (rows (λ i. i) (length (now (key .entry)))) (now (idx .exit)) ⌝ }
+    ensures { λ _. ⌜
+        SortedFrom (byKeys (now (key .entry)) (now (key .entry)) (now (key .entry)) (now (key .entry))) (rows (λ i. i) (length (now (key .entry))))
+        (now (idx .exit)) ⌝ }
 {
     iota_down(idx);
     order::sort_one(key, idx);
@@ -50,8 +54,18 @@ pub fn keep_rows(
     kept: &mut [u32],
     places: &mut [u32],
 ) -> usize
-    requires { ⌜ (length (now time) ≤ length (now sample)) × (length (now time) ≤ length (now stood)) × (length (now birth) ≡ length (now time)) × (ns + length (now time) ≤ length (now kept)) × (length (now kept) ≤ 4294967295) × (length (now time) ≤ length (now places)) × Apart (now birth) × Inside (length (now time)) (take ns (now kept)) ⌝ }
-    ensures { λ r. ⌜ KeptRows (nodeTable (now (time .entry)) (now (birth .entry))) (now (sample .entry)) (now (stood .entry)) ns (now (kept .entry)) r (now (kept .exit)) (now (places .exit)) ⌝ }
+    requires { ⌜
+        (length (now time) ≤ length (now sample)) ×
+        (length (now time) ≤ length (now stood)) ×
+        (length (now birth) ≡ length (now time)) ×
+        (ns + length (now time) ≤ length (now kept)) ×
+        (length (now kept) ≤ 4294967295) ×
+        (length (now time) ≤ length (now places)) ×
+        Apart (now birth) ×
+        Inside (length (now time)) (take ns (now kept)) ⌝ }
+    ensures { λ r. ⌜
+        KeptRows (nodeTable (now (time .entry)) (now (birth .entry))) (now (sample .entry)) (now (stood .entry)) ns (now (kept .entry)) r
+        (now (kept .exit)) (now (places .exit)) ⌝ }
 {
     let n = time.len();
     let no = keeping::others(&stood[..n], &sample[..n], time, birth, &mut kept[ns..]);

@@ -12,6 +12,7 @@ ghost use Rattle.byrows.specs.Ground.{Ground};
 ghost use Rattle.cleaner.specs.Outcome.{afterCheck};
 ghost use Rattle.cleaner.specs.Tracing.{Passed};
 ghost use Rattle.cleaner.specs.Work.{Ready};
+ghost use Rattle.sweep.specs.Columns.{movesOf, storeOf};
 use crate::rank;
 use crate::store;
 use crate::trace;
@@ -66,7 +67,34 @@ fn work(
         Passed len
         (nodeTable (now time) (now birth))
         (edgeTable (now left) (now right) (now parent) (now child)) (now position) (now site) (now node) (now samples) × ((length (now kept) ≡ 1280) × (length (now places) ≡ limits .nodes) × (length (now sample) ≡ limits .nodes) × (length (now bl) ≡ limits .edges) × (length (now br) ≡ limits .edges) × (length (now fr) ≡ length (now fl)) × (length (now fp) ≡ length (now fl)) × (length (now fc) ≡ length (now fl)) × (length (now stood) ≡ limits .nodes) × (length (now mlow) ≡ length (now mrow))) × Ranked (now birth) (now «by_birth») ⌝ }
-    ensures { λ r. ⌜ ((A D : List ℕ) → Ground limits len (record { nodes = nodeTable (now (time .entry)) (now (birth .entry)); edges = edgeTable (now (left .entry)) (now (right .entry)) (now (parent .entry)) (now (child .entry)); sites = record { position = now (position .entry); ancestral = A }; muts = record { site = now (site .entry); node = now (node .entry); derived = D } }) (now (samples .entry)) → Ready len (record { nodes = nodeTable (now (time .entry)) (now (birth .entry)); edges = edgeTable (now (left .entry)) (now (right .entry)) (now (parent .entry)) (now (child .entry)); sites = record { position = now (position .entry); ancestral = A }; muts = record { site = now (site .entry); node = now (node .entry); derived = D } }) (now (samples .entry)) (record { kept = now (kept .exit); nodes = r .nodes; places = now (places .exit); sample = now (sample .exit); by-left = now (bl .exit); by-right = now (br .exit); store = record { left = now (fl .exit); right = now (fr .exit); parent = now (fp .exit); child = now (fc .exit); stood = now (stood .exit); count = r .edges }; moves = record { row = now (mrow .exit); low = now (mlow .exit); count = r .mutations } })) ⌝ }
+    ensures { λ r. ⌜
+        ((A D : List ℕ) →
+        Ground limits len
+        (record {
+          nodes = nodeTable (now (time .entry)) (now (birth .entry));
+          edges = edgeTable (now (left .entry)) (now (right .entry)) (now (parent .entry)) (now (child .entry));
+          sites = record { position = now (position .entry); ancestral = A };
+          muts = record { site = now (site .entry); node = now (node .entry); derived = D };
+        })
+        (now (samples .entry)) →
+        Ready len
+        (record {
+          nodes = nodeTable (now (time .entry)) (now (birth .entry));
+          edges = edgeTable (now (left .entry)) (now (right .entry)) (now (parent .entry)) (now (child .entry));
+          sites = record { position = now (position .entry); ancestral = A };
+          muts = record { site = now (site .entry); node = now (node .entry); derived = D };
+        })
+        (now (samples .entry))
+        (record {
+          kept = now (kept .exit);
+          nodes = r .nodes;
+          places = now (places .exit);
+          sample = now (sample .exit);
+          by-left = now (bl .exit);
+          by-right = now (br .exit);
+          store = storeOf (now (fl .exit)) (now (fr .exit)) (now (fp .exit)) (now (fc .exit)) (now (stood .exit)) (r .edges);
+          moves = movesOf (now (mrow .exit)) (now (mlow .exit)) (r .mutations);
+        })) ⌝ }
 {
     let found = trace::trace(
         len,

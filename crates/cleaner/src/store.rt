@@ -15,6 +15,7 @@ ghost use Rattle.cleaner.specs.Fitting.{RoomFor};
 ghost use Rattle.cleaner.specs.Outcome.{afterCheck};
 ghost use Rattle.cleaner.specs.Work.{Ready};
 ghost use Rattle.cleaner.specs.Lists.{RoomForLists, ListsWritten};
+ghost use Rattle.sweep.specs.Columns.{movesOf, storeOf};
 use crate::fill;
 use crate::finish;
 use meaning::Refusal;
@@ -29,8 +30,15 @@ fn write_nodes(
     out_time: &mut [u32],
     out_birth: &mut [u32],
 )
-    requires { ⌜ (k ≤ length (now kept)) × (k ≤ length (now «out_time»)) × (k ≤ length (now «out_birth»)) × Inside (length (now time)) (take k (now kept)) × (length (now birth) ≡ length (now time)) ⌝ }
-    ensures { λ _. ⌜ (now («out_time» .exit) ≡ put (map (at (now (time .entry))) (take k (now (kept .entry)))) (now («out_time» .entry))) × (now («out_birth» .exit) ≡ put (map (at (now (birth .entry))) (take k (now (kept .entry)))) (now («out_birth» .entry))) ⌝ }
+    requires { ⌜
+        (k ≤ length (now kept)) ×
+        (k ≤ length (now «out_time»)) ×
+        (k ≤ length (now «out_birth»)) ×
+        Inside (length (now time)) (take k (now kept)) ×
+        (length (now birth) ≡ length (now time)) ⌝ }
+    ensures { λ _. ⌜
+        (now («out_time» .exit) ≡ put (map (at (now (time .entry))) (take k (now (kept .entry)))) (now («out_time» .entry))) ×
+        (now («out_birth» .exit) ≡ put (map (at (now (birth .entry))) (take k (now (kept .entry)))) (now («out_birth» .entry))) ⌝ }
 {
     writing::gather(time, kept, k, out_time);
     writing::gather(birth, kept, k, out_birth);
@@ -43,8 +51,13 @@ fn write_sites(
     out_position: &mut [u32],
     out_ancestral: &mut [u8],
 )
-    requires { ⌜ (length (now ancestral) ≡ length (now position)) × (length (now position) ≤ length (now «out_position»)) × (length (now position) ≤ length (now «out_ancestral»)) ⌝ }
-    ensures { λ _. ⌜ (now («out_position» .exit) ≡ put (now (position .entry)) (now («out_position» .entry))) × (now («out_ancestral» .exit) ≡ put (now (ancestral .entry)) (now («out_ancestral» .entry))) ⌝ }
+    requires { ⌜
+        (length (now ancestral) ≡ length (now position)) ×
+        (length (now position) ≤ length (now «out_position»)) ×
+        (length (now position) ≤ length (now «out_ancestral»)) ⌝ }
+    ensures { λ _. ⌜
+        (now («out_position» .exit) ≡ put (now (position .entry)) (now («out_position» .entry))) ×
+        (now («out_ancestral» .exit) ≡ put (now (ancestral .entry)) (now («out_ancestral» .entry))) ⌝ }
 {
     writing::copy(position, position.len(), out_position);
     writing::copy_states(ancestral, position.len(), out_ancestral);
@@ -89,8 +102,52 @@ fn write_lists(
     out_node: &mut [u32],
     out_derived: &mut [u8],
 )
-    requires { ⌜ Ready len (record { nodes = record { time = now time; birth = now birth }; edges = record { left = now left; right = now right; parent = now parent; child = now child }; sites = record { position = now position; ancestral = now ancestral }; muts = record { site = now site; node = now node; derived = now derived } }) (now samples) (record { kept = now kept; nodes = nodes; places = now places; sample = now sample; by-left = now bl; by-right = now br; store = record { left = now fl; right = now fr; parent = now fp; child = now fc; stood = now stood; count = edges }; moves = record { row = now mrow; low = now mlow; count = mutations } }) × Ranked (now birth) (now «by_birth») × RoomForLists edges mutations (record { left = now «out_left»; right = now «out_right»; parent = now «out_parent»; child = now «out_child» }) (record { site = now «out_site»; node = now «out_node»; derived = now «out_derived» }) ⌝ }
-    ensures { λ _. ⌜ ListsWritten (cleaned stands len (record { nodes = record { time = now (time .entry); birth = now (birth .entry) }; edges = record { left = now (left .entry); right = now (right .entry); parent = now (parent .entry); child = now (child .entry) }; sites = record { position = now (position .entry); ancestral = now (ancestral .entry) }; muts = record { site = now (site .entry); node = now (node .entry); derived = now (derived .entry) } }) (now (samples .entry))) (record { left = now («out_left» .entry); right = now («out_right» .entry); parent = now («out_parent» .entry); child = now («out_child» .entry) }) (record { left = now («out_left» .exit); right = now («out_right» .exit); parent = now («out_parent» .exit); child = now («out_child» .exit) }) (record { site = now («out_site» .entry); node = now («out_node» .entry); derived = now («out_derived» .entry) }) (record { site = now («out_site» .exit); node = now («out_node» .exit); derived = now («out_derived» .exit) }) ⌝ }
+    requires { ⌜
+        Ready len
+        (record {
+          nodes = record { time = now time; birth = now birth };
+          edges = record { left = now left; right = now right; parent = now parent; child = now child };
+          sites = record { position = now position; ancestral = now ancestral };
+          muts = record { site = now site; node = now node; derived = now derived };
+        })
+        (now samples)
+        (record {
+          kept = now kept;
+          nodes = nodes;
+          places = now places;
+          sample = now sample;
+          by-left = now bl;
+          by-right = now br;
+          store = storeOf (now fl) (now fr) (now fp) (now fc) (now stood) edges;
+          moves = movesOf (now mrow) (now mlow) mutations;
+        }) ×
+        Ranked (now birth) (now «by_birth») ×
+        RoomForLists edges mutations (record { left = now «out_left»; right = now «out_right»; parent = now «out_parent»; child = now «out_child» })
+        (record { site = now «out_site»; node = now «out_node»; derived = now «out_derived» }) ⌝ }
+    ensures { λ _. ⌜
+        ListsWritten
+        (cleaned stands len
+        (record {
+          nodes = record { time = now (time .entry); birth = now (birth .entry) };
+          edges = record { left = now (left .entry); right = now (right .entry); parent = now (parent .entry); child = now (child .entry) };
+          sites = record { position = now (position .entry); ancestral = now (ancestral .entry) };
+          muts = record { site = now (site .entry); node = now (node .entry); derived = now (derived .entry) };
+        })
+        (now (samples .entry)))
+        (record {
+          left = now («out_left» .entry);
+          right = now («out_right» .entry);
+          parent = now («out_parent» .entry);
+          child = now («out_child» .entry);
+        })
+        (record {
+          left = now («out_left» .exit);
+          right = now («out_right» .exit);
+          parent = now («out_parent» .exit);
+          child = now («out_child» .exit);
+        })
+        (record { site = now («out_site» .entry); node = now («out_node» .entry); derived = now («out_derived» .entry) })
+        (record { site = now («out_site» .exit); node = now («out_node» .exit); derived = now («out_derived» .exit) }) ⌝ }
 {
     fill::fill(
         len,
@@ -189,8 +246,58 @@ fn write_all(
     out_derived: &mut [u8],
     out_map: &mut [u32],
 )
-    requires { ⌜ Ready len (record { nodes = record { time = now time; birth = now birth }; edges = record { left = now left; right = now right; parent = now parent; child = now child }; sites = record { position = now position; ancestral = now ancestral }; muts = record { site = now site; node = now node; derived = now derived } }) (now samples) (record { kept = now kept; nodes = nodes; places = now places; sample = now sample; by-left = now bl; by-right = now br; store = record { left = now fl; right = now fr; parent = now fp; child = now fc; stood = now stood; count = edges }; moves = record { row = now mrow; low = now mlow; count = mutations } }) × Ranked (now birth) (now «by_birth») × RoomFor (record { nodes = nodes; edges = edges; sites = length (now position); mutations = mutations; rows = length (now time) }) (lentBy (record { nodes = record { time = now «out_time»; birth = now «out_birth» }; edges = record { left = now «out_left»; right = now «out_right»; parent = now «out_parent»; child = now «out_child» }; sites = record { position = now «out_position»; ancestral = now «out_ancestral» }; muts = record { site = now «out_site»; node = now «out_node»; derived = now «out_derived» } }) (now «out_map»)) ⌝ }
-    ensures { λ _. ⌜ ((record { nodes = record { time = now («out_time» .exit); birth = now («out_birth» .exit) }; edges = record { left = now («out_left» .exit); right = now («out_right» .exit); parent = now («out_parent» .exit); child = now («out_child» .exit) }; sites = record { position = now («out_position» .exit); ancestral = now («out_ancestral» .exit) }; muts = record { site = now («out_site» .exit); node = now («out_node» .exit); derived = now («out_derived» .exit) } }) ≡ putAll (cleaned stands len (record { nodes = record { time = now (time .entry); birth = now (birth .entry) }; edges = record { left = now (left .entry); right = now (right .entry); parent = now (parent .entry); child = now (child .entry) }; sites = record { position = now (position .entry); ancestral = now (ancestral .entry) }; muts = record { site = now (site .entry); node = now (node .entry); derived = now (derived .entry) } }) (now (samples .entry))) (record { nodes = record { time = now («out_time» .entry); birth = now («out_birth» .entry) }; edges = record { left = now («out_left» .entry); right = now («out_right» .entry); parent = now («out_parent» .entry); child = now («out_child» .entry) }; sites = record { position = now («out_position» .entry); ancestral = now («out_ancestral» .entry) }; muts = record { site = now («out_site» .entry); node = now («out_node» .entry); derived = now («out_derived» .entry) } })) × (now («out_map» .exit) ≡ put (nodeMap stands len (record { nodes = record { time = now (time .entry); birth = now (birth .entry) }; edges = record { left = now (left .entry); right = now (right .entry); parent = now (parent .entry); child = now (child .entry) }; sites = record { position = now (position .entry); ancestral = now (ancestral .entry) }; muts = record { site = now (site .entry); node = now (node .entry); derived = now (derived .entry) } }) (now (samples .entry))) (now («out_map» .entry))) ⌝ }
+    requires { ⌜
+        Ready len
+        (record {
+          nodes = record { time = now time; birth = now birth };
+          edges = record { left = now left; right = now right; parent = now parent; child = now child };
+          sites = record { position = now position; ancestral = now ancestral };
+          muts = record { site = now site; node = now node; derived = now derived };
+        })
+        (now samples)
+        (record {
+          kept = now kept;
+          nodes = nodes;
+          places = now places;
+          sample = now sample;
+          by-left = now bl;
+          by-right = now br;
+          store = storeOf (now fl) (now fr) (now fp) (now fc) (now stood) edges;
+          moves = movesOf (now mrow) (now mlow) mutations;
+        }) ×
+        Ranked (now birth) (now «by_birth») ×
+        RoomFor (record { nodes = nodes; edges = edges; sites = length (now position); mutations = mutations; rows = length (now time) })
+        (lentBy
+        (record {
+          nodes = record { time = now «out_time»; birth = now «out_birth» };
+          edges = record { left = now «out_left»; right = now «out_right»; parent = now «out_parent»; child = now «out_child» };
+          sites = record { position = now «out_position»; ancestral = now «out_ancestral» };
+          muts = record { site = now «out_site»; node = now «out_node»; derived = now «out_derived» };
+        })
+        (now «out_map»)) ⌝ }
+    ensures { λ _. ⌜
+        ((record {
+          nodes = record { time = now («out_time» .exit); birth = now («out_birth» .exit) };
+          edges = record { left = now («out_left» .exit); right = now («out_right» .exit); parent = now («out_parent» .exit); child = now («out_child» .exit) };
+          sites = record { position = now («out_position» .exit); ancestral = now («out_ancestral» .exit) };
+          muts = record { site = now («out_site» .exit); node = now («out_node» .exit); derived = now («out_derived» .exit) };
+        }) ≡ putAll (cleaned stands len (record { nodes = record { time = now (time .entry); birth = now (birth .entry) }; edges = record { left = now (left .entry); right = now (right .entry); parent = now (parent .entry); child = now (child .entry) }; sites = record { position = now (position .entry); ancestral = now (ancestral .entry) }; muts = record { site = now (site .entry); node = now (node .entry); derived = now (derived .entry) } }) (now (samples .entry))) (record {
+          nodes = record { time = now («out_time» .entry); birth = now («out_birth» .entry) };
+          edges = record { left = now («out_left» .entry); right = now («out_right» .entry); parent = now («out_parent» .entry); child = now («out_child» .entry) };
+          sites = record { position = now («out_position» .entry); ancestral = now («out_ancestral» .entry) };
+          muts = record { site = now («out_site» .entry); node = now («out_node» .entry); derived = now («out_derived» .entry) };
+        })) ×
+        (now («out_map» .exit) ≡
+        put
+        (nodeMap stands len
+        (record {
+          nodes = record { time = now (time .entry); birth = now (birth .entry) };
+          edges = record { left = now (left .entry); right = now (right .entry); parent = now (parent .entry); child = now (child .entry) };
+          sites = record { position = now (position .entry); ancestral = now (ancestral .entry) };
+          muts = record { site = now (site .entry); node = now (node .entry); derived = now (derived .entry) };
+        })
+        (now (samples .entry)))
+        (now («out_map» .entry))) ⌝ }
 {
     write_nodes(time, birth, kept, nodes, out_time, out_birth);
     write_sites(position, ancestral, out_position, out_ancestral);
@@ -280,7 +387,26 @@ pub fn store(
     out_map: &mut [u32],
     cells: usize,
 ) -> Tabled
-    requires { ⌜ Ready len (record { nodes = record { time = now time; birth = now birth }; edges = record { left = now left; right = now right; parent = now parent; child = now child }; sites = record { position = now position; ancestral = now ancestral }; muts = record { site = now site; node = now node; derived = now derived } }) (now samples) (record { kept = now kept; nodes = nodes; places = now places; sample = now sample; by-left = now bl; by-right = now br; store = record { left = now fl; right = now fr; parent = now fp; child = now fc; stood = now stood; count = edges }; moves = record { row = now mrow; low = now mlow; count = mutations } }) × Ranked (now birth) (now «by_birth») ⌝ }
+    requires { ⌜
+        Ready len
+        (record {
+          nodes = record { time = now time; birth = now birth };
+          edges = record { left = now left; right = now right; parent = now parent; child = now child };
+          sites = record { position = now position; ancestral = now ancestral };
+          muts = record { site = now site; node = now node; derived = now derived };
+        })
+        (now samples)
+        (record {
+          kept = now kept;
+          nodes = nodes;
+          places = now places;
+          sample = now sample;
+          by-left = now bl;
+          by-right = now br;
+          store = storeOf (now fl) (now fr) (now fp) (now fc) (now stood) edges;
+          moves = movesOf (now mrow) (now mlow) mutations;
+        }) ×
+        Ranked (now birth) (now «by_birth») ⌝ }
     ensures { λ r. ⌜
         outcomeOf r (record { nodes = record { time = now («out_time» .exit); birth = now («out_birth» .exit) }; edges = record { left = now («out_left» .exit); right = now («out_right» .exit); parent = now («out_parent» .exit); child = now («out_child» .exit) }; sites = record { position = now («out_position» .exit); ancestral = now («out_ancestral» .exit) }; muts = record { site = now («out_site» .exit); node = now («out_node» .exit); derived = now («out_derived» .exit) } }) (now («out_map» .exit))
         ≡ afterCheck len (record { nodes = record { time = now (time .entry); birth = now (birth .entry) }; edges = record { left = now (left .entry); right = now (right .entry); parent = now (parent .entry); child = now (child .entry) }; sites = record { position = now (position .entry); ancestral = now (ancestral .entry) }; muts = record { site = now (site .entry); node = now (node .entry); derived = now (derived .entry) } }) (now (samples .entry)) (record { nodes = record { time = now («out_time» .entry); birth = now («out_birth» .entry) }; edges = record { left = now («out_left» .entry); right = now («out_right» .entry); parent = now («out_parent» .entry); child = now («out_child» .entry) }; sites = record { position = now («out_position» .entry); ancestral = now («out_ancestral» .entry) }; muts = record { site = now («out_site» .entry); node = now («out_node» .entry); derived = now («out_derived» .entry) } }) (now («out_map» .entry)) cells ⌝ }

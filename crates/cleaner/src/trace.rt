@@ -11,6 +11,7 @@ ghost use Rattle.runs.specs.Runs.{Room};
 ghost use Rattle.sweep.specs.Sweeping.{Done};
 ghost use Rattle.cleaner.specs.Sweeping.{Sweepable, Roomy};
 ghost use Rattle.cleaner.specs.Tracing.{Passed, Traced};
+ghost use Rattle.sweep.specs.Columns.{inputOf, movesOf, storeOf};
 use meaning::NodeTable;
 use sweep::Tally;
 
@@ -36,8 +37,21 @@ pub fn swept(
     mrow: &mut [u32],
     mlow: &mut [u32],
 ) -> Tally
-    requires { ⌜ Sweepable len (record { time = now time; sample = now sample; left = now left; right = now right; parent = now parent; child = now child; by-left = now bl; by-right = now br; position = now position; site = now site; node = now node }) × Room (length (now time)) (record { left = now fl; right = now fr; parent = now fp; child = now fc; stood = now stood; count = 0 }) × (length (now mlow) ≡ length (now mrow)) ⌝ }
-    ensures { λ r. ⌜ ((Q : List ℕ) → Flags (now (sample .entry)) Q (length (now (time .entry))) → Done len (record { time = now (time .entry); sample = now (sample .entry); left = now (left .entry); right = now (right .entry); parent = now (parent .entry); child = now (child .entry); by-left = now (bl .entry); by-right = now (br .entry); position = now (position .entry); site = now (site .entry); node = now (node .entry) }) Q (record { left = now (fl .entry); right = now (fr .entry); parent = now (fp .entry); child = now (fc .entry); stood = now (stood .entry); count = 0 }) (record { row = now (mrow .entry); low = now (mlow .entry); count = 0 }) (record { left = now (fl .exit); right = now (fr .exit); parent = now (fp .exit); child = now (fc .exit); stood = now (stood .exit); count = r .edges }) (record { row = now (mrow .exit); low = now (mlow .exit); count = r .mutations })) ⌝ }
+    requires { ⌜
+        Sweepable len
+        (inputOf (now time) (now sample) (now left) (now right) (now parent) (now child) (now bl) (now br) (now position) (now site) (now node)) ×
+        Room (length (now time)) (storeOf (now fl) (now fr) (now fp) (now fc) (now stood) 0) ×
+        (length (now mlow) ≡ length (now mrow)) ⌝ }
+    ensures { λ r. ⌜
+        ((Q : List ℕ) →
+        Flags (now (sample .entry)) Q (length (now (time .entry))) →
+        Done len
+        (inputOf (now (time .entry)) (now (sample .entry)) (now (left .entry)) (now (right .entry)) (now (parent .entry)) (now (child .entry))
+        (now (bl .entry)) (now (br .entry)) (now (position .entry)) (now (site .entry)) (now (node .entry)))
+        Q (storeOf (now (fl .entry)) (now (fr .entry)) (now (fp .entry)) (now (fc .entry)) (now (stood .entry)) 0)
+        (movesOf (now (mrow .entry)) (now (mlow .entry)) 0)
+        (storeOf (now (fl .exit)) (now (fr .exit)) (now (fp .exit)) (now (fc .exit)) (now (stood .exit)) (r .edges))
+        (movesOf (now (mrow .exit)) (now (mlow .exit)) (r .mutations))) ⌝ }
 {
     let n = time.len();
     let mut par = [0u32; NodeTable::MOST];

@@ -63,7 +63,11 @@ fn write(
     k: usize,
 )
     requires { ⌜ (length (now fr) ≡ length (now fl)) × (length (now fp) ≡ length (now fl)) × (length (now fc) ≡ length (now fl)) ⌝ }
-    ensures { λ _. ⌜ (now (fl .exit) ≡ set (now (fl .entry)) k (seg .left)) × (now (fr .exit) ≡ set (now (fr .entry)) k (seg .right)) × (now (fp .exit) ≡ set (now (fp .entry)) k (seg .row)) × (now (fc .exit) ≡ set (now (fc .entry)) k child) ⌝ }
+    ensures { λ _. ⌜
+        (now (fl .exit) ≡ set (now (fl .entry)) k (seg .left)) ×
+        (now (fr .exit) ≡ set (now (fr .entry)) k (seg .right)) ×
+        (now (fp .exit) ≡ set (now (fp .entry)) k (seg .row)) ×
+        (now (fc .exit) ≡ set (now (fc .entry)) k child) ⌝ }
 {
     if fl.len() <= k {
         return;
@@ -85,8 +89,27 @@ fn push(
     stood: &mut [u8],
     count: usize,
 ) -> usize
-    requires { ⌜ Room (length (now stood)) (record { left = now fl; right = now fr; parent = now fp; child = now fc; stood = now stood; count = count }) × (seg .row < length (now stood)) ⌝ }
-    ensures { λ r. ⌜ Pushed (edgeOf seg child) (record { left = now (fl .entry); right = now (fr .entry); parent = now (fp .entry); child = now (fc .entry); stood = now (stood .entry); count = count }) (record { left = now (fl .exit); right = now (fr .exit); parent = now (fp .exit); child = now (fc .exit); stood = now (stood .exit); count = r }) ⌝ }
+    requires { ⌜
+        Room (length (now stood)) (record { left = now fl; right = now fr; parent = now fp; child = now fc; stood = now stood; count = count }) ×
+        (seg .row < length (now stood)) ⌝ }
+    ensures { λ r. ⌜
+        Pushed (edgeOf seg child)
+        (record {
+          left = now (fl .entry);
+          right = now (fr .entry);
+          parent = now (fp .entry);
+          child = now (fc .entry);
+          stood = now (stood .entry);
+          count = count;
+        })
+        (record {
+          left = now (fl .exit);
+          right = now (fr .exit);
+          parent = now (fp .exit);
+          child = now (fc .exit);
+          stood = now (stood .exit);
+          count = r;
+        }) ⌝ }
 {
     stood[seg.row as usize] = 1;
     if EdgeTable::MOST < count {
@@ -112,8 +135,29 @@ fn settle_row(
     stood: &mut [u8],
     count: usize,
 ) -> usize
-    requires { ⌜ Ready (now up) (record { left = now open_left; par = now open_par }) (record { left = now fl; right = now fr; parent = now fp; child = now fc; stood = now stood; count = count }) × (c < length (now up)) ⌝ }
-    ensures { λ r. ⌜ RowSettled x c (now (up .entry)) (record { left = now (open_left .entry); par = now (open_par .entry) }) (record { left = now (fl .entry); right = now (fr .entry); parent = now (fp .entry); child = now (fc .entry); stood = now (stood .entry); count = count }) (record { left = now (open_left .exit); par = now (open_par .exit) }) (record { left = now (fl .exit); right = now (fr .exit); parent = now (fp .exit); child = now (fc .exit); stood = now (stood .exit); count = r }) ⌝ }
+    requires { ⌜
+        Ready (now up) (record { left = now open_left; par = now open_par })
+        (record { left = now fl; right = now fr; parent = now fp; child = now fc; stood = now stood; count = count }) ×
+        (c < length (now up)) ⌝ }
+    ensures { λ r. ⌜
+        RowSettled x c (now (up .entry)) (record { left = now (open_left .entry); par = now (open_par .entry) })
+        (record {
+          left = now (fl .entry);
+          right = now (fr .entry);
+          parent = now (fp .entry);
+          child = now (fc .entry);
+          stood = now (stood .entry);
+          count = count;
+        })
+        (record { left = now (open_left .exit); par = now (open_par .exit) })
+        (record {
+          left = now (fl .exit);
+          right = now (fr .exit);
+          parent = now (fp .exit);
+          child = now (fc .exit);
+          stood = now (stood .exit);
+          count = r;
+        }) ⌝ }
 {
     let i = c as usize;
     let was = open_par[i];
@@ -155,8 +199,32 @@ pub fn settle(
     stood: &mut [u8],
     count: usize,
 ) -> usize
-    requires { ⌜ Ready (now up) (record { left = now open_left; par = now open_par }) (record { left = now fl; right = now fr; parent = now fp; child = now fc; stood = now stood; count = count }) × (nt ≤ length (now touched)) × ((i : ℕ) → i < nt → at (now touched) i < length (now up)) × (length (now listed) ≡ length (now up)) ⌝ }
-    ensures { λ r. ⌜ ChangeSettled x (now (up .entry)) (now (touched .entry)) nt (record { left = now (open_left .entry); par = now (open_par .entry) }) (record { left = now (fl .entry); right = now (fr .entry); parent = now (fp .entry); child = now (fc .entry); stood = now (stood .entry); count = count }) (record { left = now (open_left .exit); par = now (open_par .exit) }) (record { left = now (fl .exit); right = now (fr .exit); parent = now (fp .exit); child = now (fc .exit); stood = now (stood .exit); count = r }) × Bared (length (now (up .entry))) (now (touched .entry)) nt (now (listed .entry)) (now (listed .exit)) ⌝ }
+    requires { ⌜
+        Ready (now up) (record { left = now open_left; par = now open_par })
+        (record { left = now fl; right = now fr; parent = now fp; child = now fc; stood = now stood; count = count }) ×
+        (nt ≤ length (now touched)) ×
+        ((i : ℕ) → i < nt → at (now touched) i < length (now up)) ×
+        (length (now listed) ≡ length (now up)) ⌝ }
+    ensures { λ r. ⌜
+        ChangeSettled x (now (up .entry)) (now (touched .entry)) nt (record { left = now (open_left .entry); par = now (open_par .entry) })
+        (record {
+          left = now (fl .entry);
+          right = now (fr .entry);
+          parent = now (fp .entry);
+          child = now (fc .entry);
+          stood = now (stood .entry);
+          count = count;
+        })
+        (record { left = now (open_left .exit); par = now (open_par .exit) })
+        (record {
+          left = now (fl .exit);
+          right = now (fr .exit);
+          parent = now (fp .exit);
+          child = now (fc .exit);
+          stood = now (stood .exit);
+          count = r;
+        }) ×
+        Bared (length (now (up .entry))) (now (touched .entry)) nt (now (listed .entry)) (now (listed .exit)) ⌝ }
 {
     let mut made = count;
     let mut i = 0;
@@ -195,8 +263,28 @@ fn close_row(
     stood: &mut [u8],
     count: usize,
 ) -> usize
-    requires { ⌜ Opened (length (now open_par)) (record { left = now open_left; par = now open_par }) × Room (length (now open_par)) (record { left = now fl; right = now fr; parent = now fp; child = now fc; stood = now stood; count = count }) × (c < length (now open_par)) ⌝ }
-    ensures { λ r. ⌜ RowClosed len c (record { left = now (open_left .entry); par = now (open_par .entry) }) (record { left = now (fl .entry); right = now (fr .entry); parent = now (fp .entry); child = now (fc .entry); stood = now (stood .entry); count = count }) (record { left = now (fl .exit); right = now (fr .exit); parent = now (fp .exit); child = now (fc .exit); stood = now (stood .exit); count = r }) ⌝ }
+    requires { ⌜
+        Opened (length (now open_par)) (record { left = now open_left; par = now open_par }) ×
+        Room (length (now open_par)) (record { left = now fl; right = now fr; parent = now fp; child = now fc; stood = now stood; count = count }) ×
+        (c < length (now open_par)) ⌝ }
+    ensures { λ r. ⌜
+        RowClosed len c (record { left = now (open_left .entry); par = now (open_par .entry) })
+        (record {
+          left = now (fl .entry);
+          right = now (fr .entry);
+          parent = now (fp .entry);
+          child = now (fc .entry);
+          stood = now (stood .entry);
+          count = count;
+        })
+        (record {
+          left = now (fl .exit);
+          right = now (fr .exit);
+          parent = now (fp .exit);
+          child = now (fc .exit);
+          stood = now (stood .exit);
+          count = r;
+        }) ⌝ }
 {
     let i = c as usize;
     let row = open_par[i];
@@ -223,8 +311,28 @@ pub fn close(
     stood: &mut [u8],
     count: usize,
 ) -> usize
-    requires { ⌜ Opened (length (now open_par)) (record { left = now open_left; par = now open_par }) × Room (length (now open_par)) (record { left = now fl; right = now fr; parent = now fp; child = now fc; stood = now stood; count = count }) × (length (now open_par) ≤ 4294967295) ⌝ }
-    ensures { λ r. ⌜ Closed len (record { left = now (open_left .entry); par = now (open_par .entry) }) (record { left = now (fl .entry); right = now (fr .entry); parent = now (fp .entry); child = now (fc .entry); stood = now (stood .entry); count = count }) (record { left = now (fl .exit); right = now (fr .exit); parent = now (fp .exit); child = now (fc .exit); stood = now (stood .exit); count = r }) ⌝ }
+    requires { ⌜
+        Opened (length (now open_par)) (record { left = now open_left; par = now open_par }) ×
+        Room (length (now open_par)) (record { left = now fl; right = now fr; parent = now fp; child = now fc; stood = now stood; count = count }) ×
+        (length (now open_par) ≤ 4294967295) ⌝ }
+    ensures { λ r. ⌜
+        Closed len (record { left = now (open_left .entry); par = now (open_par .entry) })
+        (record {
+          left = now (fl .entry);
+          right = now (fr .entry);
+          parent = now (fp .entry);
+          child = now (fc .entry);
+          stood = now (stood .entry);
+          count = count;
+        })
+        (record {
+          left = now (fl .exit);
+          right = now (fr .exit);
+          parent = now (fp .exit);
+          child = now (fc .exit);
+          stood = now (stood .exit);
+          count = r;
+        }) ⌝ }
 {
     let mut made = count;
     let mut c: u32 = 0;

@@ -39,6 +39,25 @@ pub record State : Type 0 where
   pub ended : ℕ
   pub placed : ℕ
 
+-- ---- each by its columns, as contracts name them
+
+abbrev pub inputOf : List ℕ → List ℕ → List ℕ → List ℕ → List ℕ → List ℕ → List ℕ → List ℕ → List ℕ → List ℕ → List ℕ → Input
+inputOf time sample left right parent child by-left by-right position site node = record { time = time; sample = sample; left = left; right = right; parent = parent; child = child; by-left = by-left; by-right = by-right; position = position; site = site; node = node }
+
+abbrev pub runsOf : List ℕ → List ℕ → OpenRuns
+runsOf left par = record { left = left; par = par }
+
+abbrev pub storeOf : List ℕ → List ℕ → List ℕ → List ℕ → List ℕ → ℕ → Store
+storeOf left right parent child stood count = record { left = left; right = right; parent = parent; child = child; stood = stood; count = count }
+
+abbrev pub movesOf : List ℕ → List ℕ → ℕ → Moves
+movesOf row low count = record { row = row; low = low; count = count }
+
+abbrev pub stateOf : List ℕ → List ℕ → List ℕ → List ℕ → List ℕ → OpenRuns → Store → Moves → ℕ → ℕ → ℕ → State
+stateOf parents counts sums lows ups runs store moves begun ended placed = record { parents = parents; counts = counts; sums = sums; lows = lows; ups = ups; runs = runs; store = store; moves = moves; begun = begun; ended = ended; placed = placed }
+
+-- ---- what they are about
+
 abbrev pub edgesIn : Input → EdgeColumns
 edgesIn I = record { left = I .left; right = I .right; parent = I .parent; child = I .child }
 

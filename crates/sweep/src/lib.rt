@@ -7,6 +7,7 @@ ghost use Rattle.tree.specs.TreeAt.{Flags};
 ghost use Rattle.sweep.specs.Sweeping.{Asked, Steady, Going, Came, Done};
 ghost use Rattle.meaning.specs.Rows.{Edge};
 ghost use mathlib.Core.List.{List};
+ghost use Rattle.sweep.specs.Columns.{inputOf, movesOf, runsOf, stateOf, storeOf};
 
 // Every cell is v.
 fn fill(column: &mut [u32], v: u32)
@@ -80,8 +81,29 @@ fn step(
     mlow: &mut [u32],
     from: Reach,
 ) -> Reach
-    requires { ⌜ Steady len (record { time = now time; sample = now sample; left = now left; right = now right; parent = now parent; child = now child; by-left = now bl; by-right = now br; position = now position; site = now site; node = now node }) (length (now touched)) (now listed) (from .next) (record { parents = now par; counts = now count; sums = now sum; lows = now low; ups = now up; runs = record { left = now open_left; par = now open_par }; store = record { left = now fl; right = now fr; parent = now fp; child = now fc; stood = now stood; count = from .made }; moves = record { row = now mrow; low = now mlow; count = from .kept }; begun = from .begun; ended = from .ended; placed = from .placed }) × (from .next < len) ⌝ }
-    ensures { λ r. ⌜ Came len (record { time = now (time .entry); sample = now (sample .entry); left = now (left .entry); right = now (right .entry); parent = now (parent .entry); child = now (child .entry); by-left = now (bl .entry); by-right = now (br .entry); position = now (position .entry); site = now (site .entry); node = now (node .entry) }) (length (now (touched .entry))) (now (listed .entry)) (from .next) (record { parents = now (par .entry); counts = now (count .entry); sums = now (sum .entry); lows = now (low .entry); ups = now (up .entry); runs = record { left = now (open_left .entry); par = now (open_par .entry) }; store = record { left = now (fl .entry); right = now (fr .entry); parent = now (fp .entry); child = now (fc .entry); stood = now (stood .entry); count = from .made }; moves = record { row = now (mrow .entry); low = now (mlow .entry); count = from .kept }; begun = from .begun; ended = from .ended; placed = from .placed }) (now (listed .exit)) (r .next) (record { parents = now (par .exit); counts = now (count .exit); sums = now (sum .exit); lows = now (low .exit); ups = now (up .exit); runs = record { left = now (open_left .exit); par = now (open_par .exit) }; store = record { left = now (fl .exit); right = now (fr .exit); parent = now (fp .exit); child = now (fc .exit); stood = now (stood .exit); count = r .made }; moves = record { row = now (mrow .exit); low = now (mlow .exit); count = r .kept }; begun = r .begun; ended = r .ended; placed = r .placed }) × (from .next < r .next) ⌝ }
+    requires { ⌜
+        Steady len
+        (inputOf (now time) (now sample) (now left) (now right) (now parent) (now child) (now bl) (now br) (now position) (now site) (now node))
+        (length (now touched)) (now listed) (from .next)
+        (stateOf (now par) (now count) (now sum) (now low) (now up) (runsOf (now open_left) (now open_par))
+        (storeOf (now fl) (now fr) (now fp) (now fc) (now stood) (from .made)) (movesOf (now mrow) (now mlow) (from .kept)) (from .begun)
+        (from .ended) (from .placed)) ×
+        (from .next < len) ⌝ }
+    ensures { λ r. ⌜
+        Came len
+        (inputOf (now (time .entry)) (now (sample .entry)) (now (left .entry)) (now (right .entry)) (now (parent .entry)) (now (child .entry))
+        (now (bl .entry)) (now (br .entry)) (now (position .entry)) (now (site .entry)) (now (node .entry)))
+        (length (now (touched .entry))) (now (listed .entry)) (from .next)
+        (stateOf (now (par .entry)) (now (count .entry)) (now (sum .entry)) (now (low .entry)) (now (up .entry))
+        (runsOf (now (open_left .entry)) (now (open_par .entry)))
+        (storeOf (now (fl .entry)) (now (fr .entry)) (now (fp .entry)) (now (fc .entry)) (now (stood .entry)) (from .made))
+        (movesOf (now (mrow .entry)) (now (mlow .entry)) (from .kept)) (from .begun) (from .ended) (from .placed))
+        (now (listed .exit)) (r .next)
+        (stateOf (now (par .exit)) (now (count .exit)) (now (sum .exit)) (now (low .exit)) (now (up .exit))
+        (runsOf (now (open_left .exit)) (now (open_par .exit)))
+        (storeOf (now (fl .exit)) (now (fr .exit)) (now (fp .exit)) (now (fc .exit)) (now (stood .exit)) (r .made))
+        (movesOf (now (mrow .exit)) (now (mlow .exit)) (r .kept)) (r .begun) (r .ended) (r .placed)) ×
+        (from .next < r .next) ⌝ }
 {
     let x = from.next;
     let c = tree::advance(
@@ -180,8 +202,31 @@ fn walk(
     mrow: &mut [u32],
     mlow: &mut [u32],
 ) -> Tally
-    requires { ⌜ Steady len (record { time = now time; sample = now sample; left = now left; right = now right; parent = now parent; child = now child; by-left = now bl; by-right = now br; position = now position; site = now site; node = now node }) (length (now touched)) (now listed) 0 (record { parents = now par; counts = now count; sums = now sum; lows = now low; ups = now up; runs = record { left = now open_left; par = now open_par }; store = record { left = now fl; right = now fr; parent = now fp; child = now fc; stood = now stood; count = 0 }; moves = record { row = now mrow; low = now mlow; count = 0 }; begun = 0; ended = 0; placed = 0 }) ⌝ }
-    ensures { λ r. ⌜ ((Q : List ℕ) → Flags (now (sample .entry)) Q (length (now (time .entry))) → (F : List Edge) → Going len (record { time = now (time .entry); sample = now (sample .entry); left = now (left .entry); right = now (right .entry); parent = now (parent .entry); child = now (child .entry); by-left = now (bl .entry); by-right = now (br .entry); position = now (position .entry); site = now (site .entry); node = now (node .entry) }) 0 Q F (record { parents = now (par .entry); counts = now (count .entry); sums = now (sum .entry); lows = now (low .entry); ups = now (up .entry); runs = record { left = now (open_left .entry); par = now (open_par .entry) }; store = record { left = now (fl .entry); right = now (fr .entry); parent = now (fp .entry); child = now (fc .entry); stood = now (stood .entry); count = 0 }; moves = record { row = now (mrow .entry); low = now (mlow .entry); count = 0 }; begun = 0; ended = 0; placed = 0 }) → Done len (record { time = now (time .entry); sample = now (sample .entry); left = now (left .entry); right = now (right .entry); parent = now (parent .entry); child = now (child .entry); by-left = now (bl .entry); by-right = now (br .entry); position = now (position .entry); site = now (site .entry); node = now (node .entry) }) Q (record { left = now (fl .entry); right = now (fr .entry); parent = now (fp .entry); child = now (fc .entry); stood = now (stood .entry); count = 0 }) (record { row = now (mrow .entry); low = now (mlow .entry); count = 0 }) (record { left = now (fl .exit); right = now (fr .exit); parent = now (fp .exit); child = now (fc .exit); stood = now (stood .exit); count = r .edges }) (record { row = now (mrow .exit); low = now (mlow .exit); count = r .mutations })) ⌝ }
+    requires { ⌜
+        Steady len
+        (inputOf (now time) (now sample) (now left) (now right) (now parent) (now child) (now bl) (now br) (now position) (now site) (now node))
+        (length (now touched)) (now listed) 0
+        (stateOf (now par) (now count) (now sum) (now low) (now up) (runsOf (now open_left) (now open_par))
+        (storeOf (now fl) (now fr) (now fp) (now fc) (now stood) 0) (movesOf (now mrow) (now mlow) 0) 0 0 0) ⌝ }
+    ensures { λ r. ⌜
+        ((Q : List ℕ) →
+        Flags (now (sample .entry)) Q (length (now (time .entry))) →
+        (F : List Edge) →
+        Going len
+        (inputOf (now (time .entry)) (now (sample .entry)) (now (left .entry)) (now (right .entry)) (now (parent .entry)) (now (child .entry))
+        (now (bl .entry)) (now (br .entry)) (now (position .entry)) (now (site .entry)) (now (node .entry)))
+        0 Q F
+        (stateOf (now (par .entry)) (now (count .entry)) (now (sum .entry)) (now (low .entry)) (now (up .entry))
+        (runsOf (now (open_left .entry)) (now (open_par .entry)))
+        (storeOf (now (fl .entry)) (now (fr .entry)) (now (fp .entry)) (now (fc .entry)) (now (stood .entry)) 0)
+        (movesOf (now (mrow .entry)) (now (mlow .entry)) 0) 0 0 0) →
+        Done len
+        (inputOf (now (time .entry)) (now (sample .entry)) (now (left .entry)) (now (right .entry)) (now (parent .entry)) (now (child .entry))
+        (now (bl .entry)) (now (br .entry)) (now (position .entry)) (now (site .entry)) (now (node .entry)))
+        Q (storeOf (now (fl .entry)) (now (fr .entry)) (now (fp .entry)) (now (fc .entry)) (now (stood .entry)) 0)
+        (movesOf (now (mrow .entry)) (now (mlow .entry)) 0)
+        (storeOf (now (fl .exit)) (now (fr .exit)) (now (fp .exit)) (now (fc .exit)) (now (stood .exit)) (r .edges))
+        (movesOf (now (mrow .exit)) (now (mlow .exit)) (r .mutations))) ⌝ }
 {
     let mut at = Reach {
         begun: 0,
@@ -264,8 +309,22 @@ pub fn sweep(
     mrow: &mut [u32],
     mlow: &mut [u32],
 ) -> Tally
-    requires { ⌜ Asked len (record { time = now time; sample = now sample; left = now left; right = now right; parent = now parent; child = now child; by-left = now bl; by-right = now br; position = now position; site = now site; node = now node }) (length (now touched)) (now listed) (record { parents = now par; counts = now count; sums = now sum; lows = now low; ups = now up; runs = record { left = now open_left; par = now open_par }; store = record { left = now fl; right = now fr; parent = now fp; child = now fc; stood = now stood; count = 0 }; moves = record { row = now mrow; low = now mlow; count = 0 }; begun = 0; ended = 0; placed = 0 }) ⌝ }
-    ensures { λ r. ⌜ ((Q : List ℕ) → Flags (now (sample .entry)) Q (length (now (time .entry))) → Done len (record { time = now (time .entry); sample = now (sample .entry); left = now (left .entry); right = now (right .entry); parent = now (parent .entry); child = now (child .entry); by-left = now (bl .entry); by-right = now (br .entry); position = now (position .entry); site = now (site .entry); node = now (node .entry) }) Q (record { left = now (fl .entry); right = now (fr .entry); parent = now (fp .entry); child = now (fc .entry); stood = now (stood .entry); count = 0 }) (record { row = now (mrow .entry); low = now (mlow .entry); count = 0 }) (record { left = now (fl .exit); right = now (fr .exit); parent = now (fp .exit); child = now (fc .exit); stood = now (stood .exit); count = r .edges }) (record { row = now (mrow .exit); low = now (mlow .exit); count = r .mutations })) ⌝ }
+    requires { ⌜
+        Asked len
+        (inputOf (now time) (now sample) (now left) (now right) (now parent) (now child) (now bl) (now br) (now position) (now site) (now node))
+        (length (now touched)) (now listed)
+        (stateOf (now par) (now count) (now sum) (now low) (now up) (runsOf (now open_left) (now open_par))
+        (storeOf (now fl) (now fr) (now fp) (now fc) (now stood) 0) (movesOf (now mrow) (now mlow) 0) 0 0 0) ⌝ }
+    ensures { λ r. ⌜
+        ((Q : List ℕ) →
+        Flags (now (sample .entry)) Q (length (now (time .entry))) →
+        Done len
+        (inputOf (now (time .entry)) (now (sample .entry)) (now (left .entry)) (now (right .entry)) (now (parent .entry)) (now (child .entry))
+        (now (bl .entry)) (now (br .entry)) (now (position .entry)) (now (site .entry)) (now (node .entry)))
+        Q (storeOf (now (fl .entry)) (now (fr .entry)) (now (fp .entry)) (now (fc .entry)) (now (stood .entry)) 0)
+        (movesOf (now (mrow .entry)) (now (mlow .entry)) 0)
+        (storeOf (now (fl .exit)) (now (fr .exit)) (now (fp .exit)) (now (fc .exit)) (now (stood .exit)) (r .edges))
+        (movesOf (now (mrow .exit)) (now (mlow .exit)) (r .mutations))) ⌝ }
 {
     tree::start(time, sample, par, count, sum, low, up);
     fill(open_left, 0);

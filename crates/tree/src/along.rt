@@ -39,8 +39,18 @@ fn end_edges(
     k0: usize,
     x: u32,
 ) -> Cursor
-    requires { ⌜ Kept (now time) (now sample) (now parent) (now count) (now sum) (now low) (now up) × Plan (now time) (now left) (now right) (now above) (now child) (now bl) (now br) (length (now parent)) × Between (now left) (now right) (now above) (now child) (now bl) (now br) (now parent) i j0 x x x (x + 1) × Listed (length (now up)) k0 (now touched) (now listed) ⌝ }
-    ensures { λ r. ⌜ Kept (now (time .entry)) (now (sample .entry)) (now (parent .exit)) (now (count .exit)) (now (sum .exit)) (now (low .exit)) (now (up .exit)) × Between (now (left .entry)) (now (right .entry)) (now (above .entry)) (now (child .entry)) (now (bl .entry)) (now (br .entry)) (now (parent .exit)) i (r .ended) x x (x + 1) (x + 1) × Noted (length (now (up .entry))) (now (up .entry)) (now (up .exit)) (now (touched .entry)) (now (listed .entry)) (now (touched .exit)) (now (listed .exit)) k0 (r .touched) × (j0 ≤ r .ended) ⌝ }
+    requires { ⌜
+        Kept (now time) (now sample) (now parent) (now count) (now sum) (now low) (now up) ×
+        Plan (now time) (now left) (now right) (now above) (now child) (now bl) (now br) (length (now parent)) ×
+        Between (now left) (now right) (now above) (now child) (now bl) (now br) (now parent) i j0 x x x (x + 1) ×
+        Listed (length (now up)) k0 (now touched) (now listed) ⌝ }
+    ensures { λ r. ⌜
+        Kept (now (time .entry)) (now (sample .entry)) (now (parent .exit)) (now (count .exit)) (now (sum .exit)) (now (low .exit)) (now (up .exit)) ×
+        Between (now (left .entry)) (now (right .entry)) (now (above .entry)) (now (child .entry)) (now (bl .entry)) (now (br .entry))
+        (now (parent .exit)) i (r .ended) x x (x + 1) (x + 1) ×
+        Noted (length (now (up .entry))) (now (up .entry)) (now (up .exit)) (now (touched .entry)) (now (listed .entry)) (now (touched .exit))
+        (now (listed .exit)) k0 (r .touched) ×
+        (j0 ≤ r .ended) ⌝ }
 {
     let mut j = j0;
     let mut k = k0;
@@ -97,8 +107,19 @@ fn begin_edges(
     k0: usize,
     x: u32,
 ) -> Cursor
-    requires { ⌜ Kept (now time) (now sample) (now parent) (now count) (now sum) (now low) (now up) × Plan (now time) (now left) (now right) (now above) (now child) (now bl) (now br) (length (now parent)) × Between (now left) (now right) (now above) (now child) (now bl) (now br) (now parent) i0 j x (x + 1) (x + 1) (x + 1) × Listed (length (now up)) k0 (now touched) (now listed) ⌝ }
-    ensures { λ r. ⌜ Kept (now (time .entry)) (now (sample .entry)) (now (parent .exit)) (now (count .exit)) (now (sum .exit)) (now (low .exit)) (now (up .exit)) × Between (now (left .entry)) (now (right .entry)) (now (above .entry)) (now (child .entry)) (now (bl .entry)) (now (br .entry)) (now (parent .exit)) (r .begun) j (x + 1) (x + 1) (x + 1) (x + 1) × Noted (length (now (up .entry))) (now (up .entry)) (now (up .exit)) (now (touched .entry)) (now (listed .entry)) (now (touched .exit)) (now (listed .exit)) k0 (r .touched) × (i0 ≤ r .begun) × (r .ended ≡ j) ⌝ }
+    requires { ⌜
+        Kept (now time) (now sample) (now parent) (now count) (now sum) (now low) (now up) ×
+        Plan (now time) (now left) (now right) (now above) (now child) (now bl) (now br) (length (now parent)) ×
+        Between (now left) (now right) (now above) (now child) (now bl) (now br) (now parent) i0 j x (x + 1) (x + 1) (x + 1) ×
+        Listed (length (now up)) k0 (now touched) (now listed) ⌝ }
+    ensures { λ r. ⌜
+        Kept (now (time .entry)) (now (sample .entry)) (now (parent .exit)) (now (count .exit)) (now (sum .exit)) (now (low .exit)) (now (up .exit)) ×
+        Between (now (left .entry)) (now (right .entry)) (now (above .entry)) (now (child .entry)) (now (bl .entry)) (now (br .entry))
+        (now (parent .exit)) (r .begun) j (x + 1) (x + 1) (x + 1) (x + 1) ×
+        Noted (length (now (up .entry))) (now (up .entry)) (now (up .exit)) (now (touched .entry)) (now (listed .entry)) (now (touched .exit))
+        (now (listed .exit)) k0 (r .touched) ×
+        (i0 ≤ r .begun) ×
+        (r .ended ≡ j) ⌝ }
 {
     let mut i = i0;
     let mut k = k0;
@@ -155,8 +176,20 @@ pub fn advance(
     j: usize,
     x: u32,
 ) -> Cursor
-    requires { ⌜ Swept (now time) (now sample) (now parent) (now count) (now sum) (now low) (now up) (now left) (now right) (now above) (now child) (now bl) (now br) i j x × Listed (length (now up)) 0 (now touched) (now listed) ⌝ }
-    ensures { λ r. ⌜ Swept (now (time .entry)) (now (sample .entry)) (now (parent .exit)) (now (count .exit)) (now (sum .exit)) (now (low .exit)) (now (up .exit)) (now (left .entry)) (now (right .entry)) (now (above .entry)) (now (child .entry)) (now (bl .entry)) (now (br .entry)) (r .begun) (r .ended) (x + 1) × ((Q : List ℕ) → Flags (now (sample .entry)) Q (length (now (parent .exit))) → TreeAt (columns (now (left .entry)) (now (right .entry)) (now (above .entry)) (now (child .entry))) Q (length (now (parent .exit))) x (now (sample .entry)) (now (parent .exit)) (now (count .exit)) (now (up .exit))) × Noted (length (now (up .entry))) (now (up .entry)) (now (up .exit)) (now (touched .entry)) (now (listed .entry)) (now (touched .exit)) (now (listed .exit)) 0 (r .touched) ⌝ }
+    requires { ⌜
+        Swept (now time) (now sample) (now parent) (now count) (now sum) (now low) (now up) (now left) (now right) (now above) (now child) (now bl)
+        (now br) i j x ×
+        Listed (length (now up)) 0 (now touched) (now listed) ⌝ }
+    ensures { λ r. ⌜
+        Swept (now (time .entry)) (now (sample .entry)) (now (parent .exit)) (now (count .exit)) (now (sum .exit)) (now (low .exit)) (now (up .exit))
+        (now (left .entry)) (now (right .entry)) (now (above .entry)) (now (child .entry)) (now (bl .entry)) (now (br .entry)) (r .begun) (r .ended)
+        (x + 1) ×
+        ((Q : List ℕ) →
+        Flags (now (sample .entry)) Q (length (now (parent .exit))) →
+        TreeAt (columns (now (left .entry)) (now (right .entry)) (now (above .entry)) (now (child .entry))) Q (length (now (parent .exit))) x
+        (now (sample .entry)) (now (parent .exit)) (now (count .exit)) (now (up .exit))) ×
+        Noted (length (now (up .entry))) (now (up .entry)) (now (up .exit)) (now (touched .entry)) (now (listed .entry)) (now (touched .exit))
+        (now (listed .exit)) 0 (r .touched) ⌝ }
 {
     let a = end_edges(
         time,

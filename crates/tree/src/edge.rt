@@ -27,8 +27,15 @@ fn link(
     p: u32,
     w: u32,
 ) -> u32
-    requires { ⌜ Mended (now time) (now sample) (now parent) (now count) (now sum) × (length (now low) ≡ length (now parent)) × Enters (now time) (now parent) c p × (live (now sample) (now count) c ≡ true) ⌝ }
-    ensures { λ r. ⌜ (now (parent .exit) ≡ set (now (parent .entry)) c p) × Mended (now (time .entry)) (now (sample .entry)) (now (parent .exit)) (now (count .exit)) (now (sum .exit)) × Gained (now (sample .entry)) (now (parent .exit)) (now (count .entry)) (now (count .exit)) (now (low .entry)) (now (low .exit)) p c w r ⌝ }
+    requires { ⌜
+        Mended (now time) (now sample) (now parent) (now count) (now sum) ×
+        (length (now low) ≡ length (now parent)) ×
+        Enters (now time) (now parent) c p ×
+        (live (now sample) (now count) c ≡ true) ⌝ }
+    ensures { λ r. ⌜
+        (now (parent .exit) ≡ set (now (parent .entry)) c p) ×
+        Mended (now (time .entry)) (now (sample .entry)) (now (parent .exit)) (now (count .exit)) (now (sum .exit)) ×
+        Gained (now (sample .entry)) (now (parent .exit)) (now (count .entry)) (now (count .exit)) (now (low .entry)) (now (low .exit)) p c w r ⌝ }
 {
     parent[c as usize] = p;
     climb_up(time, sample, parent, count, sum, low, p, c, w)
@@ -44,7 +51,11 @@ fn unlink(
     c: u32,
 ) -> u32
     requires { ⌜ Mended (now time) (now sample) (now parent) (now count) (now sum) × (c < length (now parent)) × (live (now sample) (now count) c ≡ true) ⌝ }
-    ensures { λ r. ⌜ (now (parent .exit) ≡ set (now (parent .entry)) c none) × Mended (now (time .entry)) (now (sample .entry)) (now (parent .exit)) (now (count .exit)) (now (sum .exit)) × Lost (now (time .entry)) (now (sample .entry)) (now (parent .exit)) (now (count .entry)) (now (count .exit)) (getD (now (parent .entry)) c 0) r ⌝ }
+    ensures { λ r. ⌜
+        (now (parent .exit) ≡ set (now (parent .entry)) c none) ×
+        Mended (now (time .entry)) (now (sample .entry)) (now (parent .exit)) (now (count .exit)) (now (sum .exit)) ×
+        Lost (now (time .entry)) (now (sample .entry)) (now (parent .exit)) (now (count .entry)) (now (count .exit)) (getD (now (parent .entry)) c 0)
+        r ⌝ }
 {
     let q = parent[c as usize];
     parent[c as usize] = NONE;
@@ -66,8 +77,15 @@ pub fn insert_up(
     c: u32,
     p: u32,
 ) -> usize
-    requires { ⌜ Kept (now time) (now sample) (now parent) (now count) (now sum) (now low) (now up) × Enters (now time) (now parent) c p × Listed (length (now up)) k (now touched) (now listed) ⌝ }
-    ensures { λ r. ⌜ (now (parent .exit) ≡ set (now (parent .entry)) c p) × Kept (now (time .entry)) (now (sample .entry)) (now (parent .exit)) (now (count .exit)) (now (sum .exit)) (now (low .exit)) (now (up .exit)) × Noted (length (now (up .entry))) (now (up .entry)) (now (up .exit)) (now (touched .entry)) (now (listed .entry)) (now (touched .exit)) (now (listed .exit)) k r ⌝ }
+    requires { ⌜
+        Kept (now time) (now sample) (now parent) (now count) (now sum) (now low) (now up) ×
+        Enters (now time) (now parent) c p ×
+        Listed (length (now up)) k (now touched) (now listed) ⌝ }
+    ensures { λ r. ⌜
+        (now (parent .exit) ≡ set (now (parent .entry)) c p) ×
+        Kept (now (time .entry)) (now (sample .entry)) (now (parent .exit)) (now (count .exit)) (now (sum .exit)) (now (low .exit)) (now (up .exit)) ×
+        Noted (length (now (up .entry))) (now (up .entry)) (now (up .exit)) (now (touched .entry)) (now (listed .entry)) (now (touched .exit))
+        (now (listed .exit)) k r ⌝ }
 {
     if alive(sample, count, c) {
         let w = low[c as usize];
@@ -104,8 +122,16 @@ pub fn remove_up(
     k: usize,
     c: u32,
 ) -> usize
-    requires { ⌜ Kept (now time) (now sample) (now parent) (now count) (now sum) (now low) (now up) × (c < length (now parent)) × Listed (length (now up)) k (now touched) (now listed) × (getD (now parent) c 0 ≡ none → ⊥) ⌝ }
-    ensures { λ r. ⌜ (now (parent .exit) ≡ set (now (parent .entry)) c none) × Kept (now (time .entry)) (now (sample .entry)) (now (parent .exit)) (now (count .exit)) (now (sum .exit)) (now (low .exit)) (now (up .exit)) × Noted (length (now (up .entry))) (now (up .entry)) (now (up .exit)) (now (touched .entry)) (now (listed .entry)) (now (touched .exit)) (now (listed .exit)) k r ⌝ }
+    requires { ⌜
+        Kept (now time) (now sample) (now parent) (now count) (now sum) (now low) (now up) ×
+        (c < length (now parent)) ×
+        Listed (length (now up)) k (now touched) (now listed) ×
+        (getD (now parent) c 0 ≡ none → ⊥) ⌝ }
+    ensures { λ r. ⌜
+        (now (parent .exit) ≡ set (now (parent .entry)) c none) ×
+        Kept (now (time .entry)) (now (sample .entry)) (now (parent .exit)) (now (count .exit)) (now (sum .exit)) (now (low .exit)) (now (up .exit)) ×
+        Noted (length (now (up .entry))) (now (up .entry)) (now (up .exit)) (now (touched .entry)) (now (listed .entry)) (now (touched .exit))
+        (now (listed .exit)) k r ⌝ }
 {
     if alive(sample, count, c) {
         let w = low[c as usize];

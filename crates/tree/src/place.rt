@@ -45,8 +45,15 @@ pub fn start(
     low: &mut [u32],
     up: &mut [u32],
 )
-    requires { ⌜ Shape (now time) (now sample) (now parent) (now count) (now sum) × (length (now low) ≡ length (now parent)) × (length (now up) ≡ length (now parent)) ⌝ }
-    ensures { λ u. ⌜ ((l r pa ch bl br : List ℕ) → Plan (now (time .entry)) l r pa ch bl br (length (now (parent .exit))) → Swept (now (time .entry)) (now (sample .entry)) (now (parent .exit)) (now (count .exit)) (now (sum .exit)) (now (low .exit)) (now (up .exit)) l r pa ch bl br 0 0 0) ⌝ }
+    requires { ⌜
+        Shape (now time) (now sample) (now parent) (now count) (now sum) ×
+        (length (now low) ≡ length (now parent)) ×
+        (length (now up) ≡ length (now parent)) ⌝ }
+    ensures { λ u. ⌜
+        ((l r pa ch bl br : List ℕ) →
+        Plan (now (time .entry)) l r pa ch bl br (length (now (parent .exit))) →
+        Swept (now (time .entry)) (now (sample .entry)) (now (parent .exit)) (now (count .exit)) (now (sum .exit)) (now (low .exit)) (now (up .exit))
+        l r pa ch bl br 0 0 0) ⌝ }
 {
     first_time(time);
     fill(parent, NONE);
@@ -66,8 +73,15 @@ pub fn low_at(
     low: &[u32],
     u: u32,
 ) -> u32
-    requires { ⌜ Mended (now time) (now sample) (now parent) (now count) (now sum) × LowOk (now sample) (now parent) (now count) (now low) × (u < length (now parent)) ⌝ }
-    ensures { λ r. ⌜ ((E : EdgeColumns) (Q : List ℕ) (x : ℕ) → Flags (now (sample .entry)) Q (length (now (parent .entry))) → parOf (now (parent .entry)) ≡ parentRow E x → r ≡ code (lowAt E Q (length (now (parent .entry))) x u)) ⌝ }
+    requires { ⌜
+        Mended (now time) (now sample) (now parent) (now count) (now sum) ×
+        LowOk (now sample) (now parent) (now count) (now low) ×
+        (u < length (now parent)) ⌝ }
+    ensures { λ r. ⌜
+        ((E : EdgeColumns) (Q : List ℕ) (x : ℕ) →
+        Flags (now (sample .entry)) Q (length (now (parent .entry))) →
+        parOf (now (parent .entry)) ≡ parentRow E x →
+        r ≡ code (lowAt E Q (length (now (parent .entry))) x u)) ⌝ }
 {
     if alive(sample, count, u) {
         return low[u as usize];
