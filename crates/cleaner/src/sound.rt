@@ -1,5 +1,6 @@
 // Cleaning of tables that the check passes, by working columns on the stack: one sweep counts, and what it finds is kept where the columns
-// have room for it; where they have not, a second sweep writes it to the lent columns.
+// have room for it (every finished edge within the limit, and so many mutations); where they have not, a second sweep writes it to the lent
+// columns.
 ghost use mathlib.Core.Path.{_≡_};
 ghost use mathlib.Core.List.{List};
 ghost use Prim.Native.Nat.{ℕ, _≤_};
@@ -22,9 +23,6 @@ use meaning::Tabled;
 
 // Room for the samples' rows and then every row.
 const KEPT: usize = 1280;
-
-// As many finished edges of the first sweep are kept.
-const EDGES: usize = 2048;
 
 // As many mutations that move are kept.
 const MOVES: usize = 512;
@@ -190,10 +188,10 @@ pub fn clean_sound(
     let mut places = [0u32; NodeTable::MOST];
     let mut sample = [0u8; NodeTable::MOST];
     let mut br = [0u32; EdgeTable::MOST];
-    let mut fl = [0u32; EDGES];
-    let mut fr = [0u32; EDGES];
-    let mut fp = [0u32; EDGES];
-    let mut fc = [0u32; EDGES];
+    let mut fl = [0u32; EdgeTable::MOST];
+    let mut fr = [0u32; EdgeTable::MOST];
+    let mut fp = [0u32; EdgeTable::MOST];
+    let mut fc = [0u32; EdgeTable::MOST];
     let mut stood = [0u8; NodeTable::MOST];
     let mut mrow = [0u32; MOVES];
     let mut mlow = [0u32; MOVES];
