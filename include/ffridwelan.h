@@ -33,7 +33,7 @@
  * Any input is taken, broken rows too: no call crashes, and none runs for ever. A call keeps no state,
  * allocates nothing and reads and writes no file, so threads may call at the same time, each with its own outputs.
  * It needs stack: a thread with 220 KiB can make every call that the tests know how to make (the most that one takes is
- * 168,568 bytes for ffr_clean and 210,728 for ffr_join).
+ * 193,544 bytes for ffr_clean and 145,800 for ffr_join).
  */
 #ifndef FFRIDWELAN_H
 #define FFRIDWELAN_H
