@@ -88,7 +88,7 @@ pub fn line_up(left: &[u32], right: &[u32], parent: &[u32], child: &[u32], idx: 
         (edgeTable (now (left .entry)) (now (right .entry)) (now (parent .entry)) (now (child .entry))) (now (idx .exit)) ⌝ }
 {
     order::iota(idx);
-    order::sort_rows(child, left, left, left, idx);
+    order::sort_two(child, left, idx);
 }
 
 // The edges by child, of edges that rule 7 has passed.

@@ -9,14 +9,14 @@ use Rattle.rules.proofs.shared.line_up.Tie as tie
 iota-requires : tie.Need-iota-requires
 iota-requires c κs = search needs
 
-sort-rows-requires : tie.Need-sort-rows-requires
-sort-rows-requires c κs = (edge-keys _ (c .before .before .before .before .before .before .before .before .before .before .pre .0), own-rows _ _ _ (c .before .before .before .iota .ensures) (c .before .before .before .before .before .before .before .before .before .before .pre .2 ∙ sym (c .before .before .before .before .before .before .before .before .before .before .pre .0 .child-long)))
+sort-two-requires : tie.Need-sort-two-requires
+sort-two-requires c κs = (edge-keys _ (c .before .before .before .before .before .before .before .before .before .before .pre .0), own-rows _ _ _ (c .before .before .before .iota .ensures) (c .before .before .before .before .before .before .before .before .before .before .pre .2 ∙ sym (c .before .before .before .before .before .before .before .before .before .before .pre .0 .child-long)))
 
 same-length : tie.Need-same-length
 same-length c = search needs
 
 returns : tie.Need-returns
-returns c = (edges-lined _ _ _ _ (c .before .before .before .before .before .before .before .before .before .before .before .before .before .pre .1) (c .before .before .before .before .before .before .iota .ensures) (c .before .before .before .before .before .before .before .before .before .before .before .before .before .pre .2) (c .before .before .sort-rows .kept .1 .1 .1 .1 .0 ∙ c .before .before .before .before .before .before .iota .kept .0 ∙ c .before .before .before .before .before .before .before .before .before .before .before .before .before .pre .2) (c .before .before .sort-rows .ensures), edges-ascend _ _ _ (c .before .before .sort-rows .ensures))
+returns c = (edges-lined _ _ _ _ (c .before .before .before .before .before .before .before .before .before .before .before .before .before .pre .1) (c .before .before .before .before .before .before .iota .ensures) (c .before .before .before .before .before .before .before .before .before .before .before .before .before .pre .2) (c .before .before .sort-two .kept .1 .1 .0 ∙ c .before .before .before .before .before .before .iota .kept .0 ∙ c .before .before .before .before .before .before .before .before .before .before .before .before .before .pre .2) (c .before .before .sort-two .ensures), edges-ascend _ _ _ (c .before .before .sort-two .ensures))
 
 pub line-up-spec : {M : Type 1} → statement M
-line-up-spec = tie.close (tie.spec iota-requires sort-rows-requires same-length returns)
+line-up-spec = tie.close (tie.spec iota-requires sort-two-requires same-length returns)
