@@ -4,7 +4,7 @@ use mathlib.Core.Bool.{Bool, true, false}
 use mathlib.Core.List.{List, [], _∷_}
 use mathlib.Core.Option.{none, some}
 use mathlib.Core.Logic.{_⊎_, inl, inr, ⊎-elim}
-use Prim.Native.Nat.{ℕ, zero, suc, _<_}
+use Prim.Native.Nat.{ℕ, zero, suc, _<_, _≤_}
 use native.Mathlib.Omega.{arith}
 use lib.ListN.{length, getD, set, length-set}
 use lib.Seq.{getD-set-same, getD-set-other}
@@ -93,10 +93,14 @@ module _ {T S P C D : List ℕ} {q : ℕ} (lb : Labelling T S P C D q) (K : ℕ 
       pub label-from : Onward T P K w D (set D q w) q (getD P q 0)
       label-from = record { row = lb .grows .inside q (lb .row) z; fewer = fewer-older T P q (lb .grows) (lb .row) z; rest = label-rest; over = λ r o. on parent k o }
 
-      -- what the call from there leaves is told from q
-      pub label-on : (D' : List ℕ) (r : Label) → Led T P K w (set D q w) D' (getD P q 0) r → Led T P K w D D' q r
-      label-on D' (Done r) s = (label-rest D' (s .0), on parent k (s .1))
-      label-on D' (From o) s = record { row = s .row; fewer = omega (arith, s .fewer, label-from .fewer); rest = λ E t. label-rest E (s .rest E t); over = λ r t. on parent k (s .over r t) }
+-- what a call leaves that went on from where another came to
+pub led-on : {T P : List ℕ} {K : ℕ → Bool} {w : ℕ} {D D₁ : List ℕ} (D' : List ℕ) {q o : ℕ} → Onward T P K w D D₁ q o → (r : Label) → Led T P K w D₁ D' o r → Led T P K w D D' q r
+led-on D' n (Done r) s = (n .rest D' (s .0), n .over r (s .1))
+led-on D' n (From o) s = record { row = s .row; fewer = omega (arith, s .fewer, n .fewer); rest = λ E t. n .rest E (s .rest E t); over = λ r t. n .over r (s .over r t) }
+
+-- and the columns that it goes by
+pub led-next : {T S P C D D₁ : List ℕ} {K : ℕ → Bool} {w q o : ℕ} → Labelling T S P C D q → length D₁ ≡ length D → Onward T P K w D D₁ q o → Labelling T S P C D₁ o
+led-next l k n = record { samples = l .samples; counts = l .counts; lows = k ∙ l .lows; rows = l .rows; grows = l .grows; row = n .row }
 
 -- ---- the loop over calls
 
@@ -116,6 +120,10 @@ module _ {T S P C D₀ D D' : List ℕ} {w q v : ℕ} (u : Underway T S P C D₀
 
   pub told-from : {o : ℕ} → s ≡ From o → Onward T P (stands S C) w D D' v o
   told-from e = subst (λ (s : Label). Led T P (stands S C) w D D' v s) e h
+
+  -- rows that were passed before, and the ones passed now
+  pub told-on : {o : ℕ} → s ≡ From o → older T v ≤ older T q → Onward T P (stands S C) w D₀ D' q o
+  told-on e b = let n : _ = told-from e in record { row = n .row; fewer = omega (arith, n .fewer, b); rest = λ E t. u .rest E (n .rest E t); over = λ r t. u .over r (n .over r t) }
 
   pub go-on : {o : ℕ} → length D' ≡ length D → s ≡ From o → Underway T S P C D₀ D' w q o
   go-on k e =
