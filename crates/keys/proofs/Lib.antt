@@ -1,2 +1,3 @@
 -- Laws of the loops.
 pub mod Placing
+pub mod Once
