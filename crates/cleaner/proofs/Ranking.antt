@@ -23,12 +23,6 @@ use Rattle.keeping.specs.Fronts.{put-front, inside-of}
 use Rattle.keeping.specs.Others.{OthersListed}
 use Rattle.cleaner.specs.Tracing.{KeptRows}
 
-pub iota-inside : (l : List ℕ) (m n : ℕ) → l ≡ rows (λ i. i) m → m ≡ n → Inside n l
-iota-inside l m n e q = rw e (own-inside m n (omega arith))
-
-pub from-iota : {lt : ℕ → ℕ → Bool} (l r : List ℕ) (m n : ℕ) → l ≡ rows (λ i. i) m → m ≡ n → SortedFrom lt l r → SortedFrom lt (rows (λ i. i) n) r
-from-iota l r m n e q s = rw q at (rw e at s)
-
 -- ---- the rows from the last one down
 
 module _ (f : ℕ → Bool) (g : ℕ → ℕ) where

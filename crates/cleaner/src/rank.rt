@@ -7,17 +7,7 @@ ghost use Rattle.meaning.specs.Rows.{nodeTable};
 ghost use Rattle.accepted.specs.Checked.{Apart};
 ghost use Rattle.order.specs.Order.{Inside, SortedFrom, byKeys};
 ghost use Rattle.cleaner.specs.Tracing.{KeptRows};
-
-// A table's rows in the order of a key column.
-pub fn ranked(key: &[u32], idx: &mut [u32])
-    requires { ⌜ (length (now idx) ≡ length (now key)) × (length (now key) ≤ 4294967296) ⌝ }
-    ensures { λ _. ⌜
-        SortedFrom (byKeys (now (key .entry)) (now (key .entry)) (now (key .entry)) (now (key .entry))) (rows (λ i. i) (length (now (key .entry))))
-        (now (idx .exit)) ⌝ }
-{
-    order::iota(idx);
-    order::sort_one(key, idx);
-}
+use order::Spare;
 
 // Fills a column with its own row numbers from the last one down.
 fn iota_down(idx: &mut [u32])
@@ -32,16 +22,42 @@ fn iota_down(idx: &mut [u32])
     }
 }
 
-// The same order as `ranked` gives; where rows tie, a stable sort leaves the later row first. Of edges that begin together the one with
-// the older parent then comes first, and what enters the tree dead costs nothing.
-pub fn ranked_down(key: &[u32], idx: &mut [u32])
-    requires { ⌜ (length (now idx) ≡ length (now key)) × (length (now key) ≤ 4294967296) ⌝ }
+// A table's rows in the order of a key column; spare is a working column. Where rows tie, a stable sort leaves the later row first. Of edges
+// that begin together the one with the older parent then comes first, and what enters the tree dead costs nothing.
+fn ranked_down(key: &[u32], idx: &mut [u32], spare: &mut [u32])
+    requires { ⌜ (length (now idx) ≡ length (now key)) × (length (now key) ≤ 4096) × (length (now spare) ≡ length (now key)) ⌝ }
     ensures { λ _. ⌜
         SortedFrom (byKeys (now (key .entry)) (now (key .entry)) (now (key .entry)) (now (key .entry))) (rows (λ i. i) (length (now (key .entry))))
         (now (idx .exit)) ⌝ }
 {
     iota_down(idx);
-    order::sort_one(key, idx);
+    let mut counters = [0u32; Spare::COUNTERS];
+    order::sort_one_with(key, idx, spare, &mut counters);
+}
+
+// The edges in the orders of left, in bl, and of right, in br.
+pub fn both_orders(
+    len: u32,
+    left: &[u32],
+    right: &[u32],
+    child: &[u32],
+    bl: &mut [u32],
+    br: &mut [u32],
+)
+    requires { ⌜
+        (length (now right) ≡ length (now left)) ×
+        (length (now child) ≡ length (now left)) ×
+        (length (now bl) ≡ length (now left)) ×
+        (length (now br) ≡ length (now left)) ×
+        (length (now left) ≤ 4096) ⌝ }
+    ensures { λ _. ⌜
+        SortedFrom (byKeys (now (left .entry)) (now (left .entry)) (now (left .entry)) (now (left .entry))) (rows (λ i. i) (length (now (left .entry))))
+        (now (bl .exit)) ×
+        SortedFrom (byKeys (now (right .entry)) (now (right .entry)) (now (right .entry)) (now (right .entry)))
+        (rows (λ i. i) (length (now (right .entry)))) (now (br .exit)) ⌝ }
+{
+    ranked_down(left, bl, br);
+    keys::ends::by_right(len, left, right, child, bl, br);
 }
 
 // The other rows kept behind the ns samples' rows, and every row's place; how many rows are kept.

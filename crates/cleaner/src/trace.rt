@@ -131,8 +131,7 @@ pub fn trace(
     let n = time.len();
     let e = left.len();
     keeping::sample_rows(birth, by_birth, samples, kept, &mut sample[..n]);
-    crate::rank::ranked_down(left, &mut bl[..e]);
-    crate::rank::ranked(right, &mut br[..e]);
+    crate::rank::both_orders(len, left, right, child, &mut bl[..e], &mut br[..e]);
     swept(
         len,
         time,
