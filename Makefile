@@ -2,7 +2,7 @@
 #
 #   make archive             prove crate ffr and write target/staticlib/libffr.a
 #   make ctest               the calls compared with a second implementation, from C++ and C
-#   make example             a breeding run by the calls, listed by target/bin/ffridwelan
+#   make example             a breeding run by the calls, listed by target/bin/ffridwelan, and the alleles of its last fish
 #   make faults              that the tests see planted faults
 #   make bench               the calls beside C++ baselines, in time and instructions (bench/run)
 #   make sanitize valgrind   the tests under the sanitizers and under valgrind (on x86-64)
@@ -39,9 +39,9 @@ LISTER := target/bin/ffridwelan
 # Compiled files, in a folder of their own for each way of building.
 OUT := target/cpp$(if $(filter 1,$(REFERENCE)),-reference)
 HEADERS := $(wildcard include/*) $(wildcard cpp/*.hpp) $(wildcard bench/*.hpp)
-REFERENCES := check clean join position
-SOURCES := $(REFERENCES:%=cpp/reference_%.cpp) cpp/histories.cpp cpp/cases.cpp cpp/test_calls.cpp
-FAULTS := 1 2 3 4 5 6 7 8
+REFERENCES := check clean join position alleles
+SOURCES := $(REFERENCES:%=cpp/reference_%.cpp) cpp/histories.cpp cpp/cases.cpp cpp/test_alleles.cpp cpp/test_stack.cpp cpp/test_calls.cpp
+FAULTS := $(shell seq 24)
 
 COMPILE = $(CXX) -std=c++17 $(STRICT) $(CXXFLAGS) -pthread -Iinclude
 
@@ -97,11 +97,14 @@ ctest: $(OUT)/test_calls $(OUT)/test_c
 ifeq ($(REFERENCE),1)
 example: $(OUT)/example
 	$(RUN) $(OUT)/example > $(OUT)/example.seq
+	$(RUN) $(OUT)/example panel > $(OUT)/example.panel
+	sed -n '/^genotypes/,$$p' cpp/example.expected | cmp $(OUT)/example.panel
 	@echo "the stored form is $(OUT)/example.seq; it is not listed, since rt builds the listing program"
 else
 example: $(OUT)/example $(LISTER)
 	$(RUN) $(OUT)/example > $(OUT)/example.seq
 	$(RUN) $(LISTER) < $(OUT)/example.seq > $(OUT)/example.out
+	$(RUN) $(OUT)/example panel >> $(OUT)/example.out
 	cat $(OUT)/example.out
 	cmp $(OUT)/example.out cpp/example.expected
 endif

@@ -4,6 +4,7 @@
 
 #include "algorithm_s.hpp"
 #include "join_baseline.hpp"
+#include "panel_baseline.hpp"
 
 namespace bench {
 
@@ -61,6 +62,30 @@ inline std::uint64_t join(const Tables &t, const Batch &b, Room &r) {
                     FFR_IN(r.time), FFR_IN(r.birth), FFR_IN(r.left), FFR_IN(r.right), FFR_IN(r.parent),
                     FFR_IN(r.child), FFR_IN(r.position), FFR_IN(r.ancestral), FFR_IN(r.site), FFR_IN(r.node),
                     FFR_IN(r.derived), FFR_IN(r.block));
+}
+
+inline std::uint64_t alleles(const Tables &t, const std::uint32_t *sites, std::size_t site_count, const std::uint32_t *fish,
+                             std::size_t fish_count, std::uint8_t *states, std::uint8_t *missing) {
+    return ffr_alleles(t.len, FFR_IN(t.time), FFR_IN(t.birth), FFR_IN(t.left), FFR_IN(t.right), FFR_IN(t.parent),
+                       FFR_IN(t.child), FFR_IN(t.position), FFR_IN(t.ancestral), FFR_IN(t.site), FFR_IN(t.node),
+                       FFR_IN(t.derived), sites, site_count, fish, fish_count, states, site_count * fish_count, missing,
+                       site_count * fish_count);
+}
+
+// The whole panel in one call.
+inline std::uint64_t alleles(const Tables &t, Panel &p) {
+    return alleles(t, p.sites.data(), p.sites.size(), p.fish.data(), p.fish.size(), p.states.data(), p.missing.data());
+}
+
+// The same by single calls: one for each cell, with lists of one.
+inline std::uint64_t singles(const Tables &t, Panel &p) {
+    std::uint64_t answers = 0;
+    for (std::size_t i = 0; i < p.fish.size(); ++i)
+        for (std::size_t j = 0; j < p.sites.size(); ++j) {
+            const std::size_t cell = i * p.sites.size() + j;
+            answers |= alleles(t, &p.sites[j], 1, &p.fish[i], 1, &p.states[cell], &p.missing[cell]);
+        }
+    return answers;
 }
 
 inline bool same(const Tables &a, const Tables &b) {

@@ -23,28 +23,12 @@ Record line(std::uint32_t nodes) {
     return r;
 }
 
-namespace {
-
-void wants(Suite &s, const char *what, const Record &r, std::uint32_t number, std::uint32_t row) {
-    const reference::Answer a = s.clean(what, r, Rooms::limits());
-    s.expect(a.number == number && a.row == row, std::string(what) + " against the paper");
-}
-
-// The cleaned tables as the wrapper gives them are these.
-void gives(Suite &s, const char *what, const Record &r, const Tables &want) {
-    wants(s, what, r, 0, 0);
-    const auto got = ffridwelan::clean(r.length, r.tables, r.samples);
-    const auto *cleaned = std::get_if<ffridwelan::Cleaned>(&got);
-    s.expect(cleaned != nullptr && cleaned->tables == want, std::string(what) + ": tables against the paper");
-}
-
 Column count_from(std::uint32_t first, std::size_t count) {
     Column c(count);
     for (std::size_t i = 0; i < count; ++i) c[i] = first + static_cast<std::uint32_t>(i);
     return c;
 }
 
-// One parent and child, an edge for each position.
 Record steps(std::uint32_t edges) {
     Record r;
     r.length = edges;
@@ -64,6 +48,21 @@ Record marked(std::uint32_t sites, std::uint32_t mutations) {
     r.tables.mutations.node.assign(mutations, 2);
     r.tables.mutations.derived.assign(mutations, 66);
     return r;
+}
+
+namespace {
+
+void wants(Suite &s, const char *what, const Record &r, std::uint32_t number, std::uint32_t row) {
+    const reference::Answer a = s.clean(what, r, Rooms::limits());
+    s.expect(a.number == number && a.row == row, std::string(what) + " against the paper");
+}
+
+// The cleaned tables as the wrapper gives them are these.
+void gives(Suite &s, const char *what, const Record &r, const Tables &want) {
+    wants(s, what, r, 0, 0);
+    const auto got = ffridwelan::clean(r.length, r.tables, r.samples);
+    const auto *cleaned = std::get_if<ffridwelan::Cleaned>(&got);
+    s.expect(cleaned != nullptr && cleaned->tables == want, std::string(what) + ": tables against the paper");
 }
 
 Record sampled(std::uint32_t samples) {

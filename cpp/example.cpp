@@ -1,5 +1,6 @@
-// A small breeding run: records births, joins a batch each generation, cleans every so often and at the end, and
-// writes the stored form to standard output, for the program ffridwelan to list. What it does is told on standard error.
+// A small breeding run: records births, joins a batch each generation, cleans every so often and at the end, and reads the
+// alleles of the living fish. It writes the stored form to standard output, for the program ffridwelan to list, and tells what
+// it does on standard error, the alleles last; called as `example panel` it writes the alleles to standard output instead.
 //
 // The fish are diploid. A node of the tables is ONE CHROMOSOME, so that each fish is two nodes with two birth numbers, and
 // what a parent gives is a gamete: one chromosome, pieced together from the parent's two.
@@ -7,6 +8,7 @@
 
 #include <cstdio>
 #include <cstdlib>
+#include <cstring>
 #include <utility>
 
 namespace {
@@ -108,9 +110,31 @@ void new_site(Tables &record, std::uint32_t x, std::uint8_t ancestral) {
         if (site >= row) ++site;
 }
 
+// One chromosome's allele for people: its letter, or - where it is missing, which is not the ancestral state.
+char letter(const Panel &panel, std::size_t chromosome, std::size_t site) {
+    return static_cast<char>(panel.state(chromosome, site).value_or('-'));
+}
+
+// The genotypes of these fish at every site: a line for each fish, with its two birth numbers and, at each site, the allele
+// that it has from the dam and the one from the sire.
+void print_genotypes(std::FILE *out, const Tables &record, const std::vector<Fish> &fish) {
+    Column sites;
+    for (std::uint32_t row = 0; row < record.sites.position.size(); ++row) sites.push_back(row);
+    const Panel panel = take(alleles(kLength, record, sites, chromosomes(fish))); // two rows of cells for each fish
+    std::fprintf(out, "genotypes ");
+    for (std::uint32_t x : record.sites.position) std::fprintf(out, " %4u", x);
+    std::fprintf(out, "\n");
+    for (std::size_t i = 0; i < fish.size(); ++i) {
+        std::fprintf(out, "%4u, %4u", fish[i].from_dam, fish[i].from_sire);
+        for (std::size_t j = 0; j < sites.size(); ++j) std::fprintf(out, "  %c/%c", letter(panel, 2 * i, j), letter(panel, 2 * i + 1, j));
+        std::fprintf(out, "\n");
+    }
+}
+
 } // namespace
 
-int main() {
+int main(int count, char **words) {
+    const bool panel_only = count > 1 && std::strcmp(words[1], "panel") == 0;
     std::vector<Fish> living;
     Tables record = founders(living);
     for (std::uint32_t g = 1; g <= kGenerations; ++g) {
@@ -125,6 +149,8 @@ int main() {
         std::fprintf(stderr, "generation %u: %zu nodes cleaned to %zu, %zu edges\n", g, before, record.nodes.time.size(),
                      record.edges.left.size());
     }
+    print_genotypes(panel_only ? stdout : stderr, record, living);
+    if (panel_only) return 0;
     const auto bytes = stored(kLength, record, chromosomes(living));
     if (!bytes) return 1;
     std::fwrite(bytes->data(), 1, bytes->size(), stdout);

@@ -285,4 +285,20 @@ Record toggling(std::size_t pieces, std::uint32_t others) {
     return out;
 }
 
+Record pieces_of_one_parent(std::uint32_t children, std::uint32_t pieces, std::uint32_t sites) {
+    Record r;
+    r.length = 2 * pieces * children + sites;
+    r.tables.nodes.add(9, 5000);
+    for (std::uint32_t c = 1; c <= children; ++c) {
+        r.tables.nodes.add(0, c);
+        r.samples.push_back(c);
+        for (std::uint32_t i = 0; i < pieces; ++i) r.tables.edges.add(2 * i * children + c % 2, 2 * (i + 1) * children - c, 0, c);
+    }
+    for (std::uint32_t i = 0; i < sites; ++i) {
+        r.tables.sites.add(i, 'A');
+        for (std::uint32_t c : {1 + i % children, 1 + (i + 1) % children}) r.tables.mutations.add(i, c, 'C');
+    }
+    return r;
+}
+
 } // namespace testing

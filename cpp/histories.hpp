@@ -63,6 +63,10 @@ Record hanging(std::size_t nodes, std::size_t pieces);
 // become many; so many other samples hang from the root, one edge each.
 Record toggling(std::size_t pieces, std::uint32_t others);
 
+// One parent over so many samples, each below it in so many pieces with gaps between them, and two mutations at each of so many sites: more
+// finished edges, or mutations that move, than a cleaning keeps from its first sweep, so that it sweeps again.
+Record pieces_of_one_parent(std::uint32_t children, std::uint32_t pieces, std::uint32_t sites);
+
 } // namespace testing
 
 #endif

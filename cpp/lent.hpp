@@ -142,6 +142,29 @@ struct Outputs {
     }
 };
 
+// The two blocks of a panel.
+struct Blocks {
+    Lent<std::uint8_t> states, missing;
+
+    Blocks(std::size_t states_room, std::size_t missing_room, std::uint32_t pattern) {
+        states.lend(states_room, pattern + 1);
+        missing.lend(missing_room, pattern + 2);
+    }
+
+    // What the blocks must hold after a call with this result; a refused one leaves them.
+    void lay(const reference::Panel &p) {
+        if (p.answer.number != 0) return;
+        states.lay(p.states);
+        missing.lay(p.missing);
+    }
+
+    const char *differs(const Blocks &o) const {
+        if (states.cells != o.states.cells) return "states";
+        if (missing.cells != o.missing.cells) return "missing";
+        return nullptr;
+    }
+};
+
 #define READ(column) ffridwelan::detail::cells(column), (column).size()
 #define LEND(column) (column).cells.data(), (column).room
 
@@ -161,6 +184,13 @@ inline std::uint64_t call_join(std::uint32_t length, const Tables &t, const Batc
                     READ(b.mutations.site), READ(b.mutations.node), READ(b.mutations.derived), LEND(o.time), LEND(o.birth),
                     LEND(o.left), LEND(o.right), LEND(o.parent), LEND(o.child), LEND(o.position), LEND(o.ancestral),
                     LEND(o.site), LEND(o.node), LEND(o.derived), LEND(o.block));
+}
+
+inline std::uint64_t call_alleles(std::uint32_t length, const Tables &t, const Column &sites, const Column &fish, Blocks &b) {
+    return ffr_alleles(length, READ(t.nodes.time), READ(t.nodes.birth), READ(t.edges.left), READ(t.edges.right),
+                       READ(t.edges.parent), READ(t.edges.child), READ(t.sites.position), READ(t.sites.ancestral),
+                       READ(t.mutations.site), READ(t.mutations.node), READ(t.mutations.derived), READ(sites), READ(fish),
+                       LEND(b.states), LEND(b.missing));
 }
 
 #undef READ

@@ -1,5 +1,5 @@
-// A second implementation of check, cleaning and joining, for comparing: written from the scope paper alone, in plain C++,
-// and not from the proved code. Cleaning is by ancestral segments (Algorithm S of the published method, bench/algorithm_s.hpp).
+// A second implementation of check, cleaning, joining and reading alleles, for comparing: written from the customer's papers
+// alone, in plain C++, and not from the proved code. Cleaning is by ancestral segments (Algorithm S of the published method, bench/algorithm_s.hpp).
 #ifndef REFERENCE_HPP
 #define REFERENCE_HPP
 
@@ -9,6 +9,7 @@ namespace reference {
 
 using ffridwelan::Batch;
 using ffridwelan::Column;
+using ffridwelan::States;
 using ffridwelan::Tables;
 
 // A number and a row of the scope paper; number 0 is done.
@@ -29,6 +30,19 @@ struct Result {
     Column map;
 };
 
+// What one allele call gives: 41, 42, missing, or a state (0 where there is none).
+struct Single {
+    Answer answer;
+    bool missing = false;
+    std::uint8_t state = 0;
+};
+
+// What a panel gives; the blocks are empty where it is refused.
+struct Panel {
+    Answer answer;
+    States states, missing;
+};
+
 // Rules 1 to 10, without samples.
 Answer check_tables(std::uint32_t length, const Tables &t);
 
@@ -44,6 +58,12 @@ Result simplify(std::uint32_t length, const Tables &t, const Column &samples);
 
 // The same by the scope paper's own words, one position after the other; for short chromosomes.
 Result by_position(std::uint32_t length, const Tables &t, const Column &samples);
+
+// One allele of sound tables.
+Single read_allele(const Tables &t, std::uint32_t site, std::uint32_t birth);
+
+// All alleles of a panel, with blocks of so many cells.
+Panel panel(std::uint32_t length, const Tables &t, const Column &sites, const Column &fish, std::size_t states_room, std::size_t missing_room);
 
 } // namespace reference
 

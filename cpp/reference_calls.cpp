@@ -1,5 +1,5 @@
-// The two calls of ffridwelan.h made by the second implementation, to be linked in place of the archive: for trying a
-// caller where there is no archive, and, with FFR_FAULT from 1 to 8, for showing that the tests see a fault.
+// The three calls of ffridwelan.h made by the second implementation, to be linked in place of the archive: for trying a
+// caller where there is no archive, and, with FFR_FAULT from 1 to 24 (9 and above in the panel), for showing that the tests see a fault.
 #include "reference.hpp"
 
 #include <algorithm>
@@ -81,6 +81,68 @@ std::uint64_t finish(reference::Result &r, const Tables &input, const Outs &outs
     return FFR_FAULT == 5 ? row * 4294967296u + number : number * 4294967296u + row;
 }
 
+// The tables as a panel with a fault reads them.
+Tables misread(Tables t) {
+    if (FFR_FAULT != 13 || t.mutations.node.size() != t.mutations.site.size() || t.mutations.derived.size() != t.mutations.site.size()) return t;
+    ffridwelan::Mutations kept;
+    for (std::size_t i = 0; i < t.mutations.site.size(); ++i) {
+        bool later = false;
+        for (std::size_t k = 0; k < kept.site.size(); ++k) later = later || (kept.site[k] == t.mutations.site[i] && kept.node[k] == t.mutations.node[i]);
+        if (!later) kept.add(t.mutations.site[i], t.mutations.node[i], t.mutations.derived[i]);
+    }
+    t.mutations = kept; // the second mutation on a node ignored
+    return t;
+}
+
+// Whether a chromosome is missing at a site as a panel with a fault has it; the right answer is given.
+bool misjudged(const Tables &t, std::uint32_t site, std::uint32_t birth, bool missing) {
+    const std::size_t u = static_cast<std::size_t>(std::find(t.nodes.birth.begin(), t.nodes.birth.end(), birth) - t.nodes.birth.begin());
+    bool parent = false, child = false, ever = false, own = false, mutated = false;
+    for (std::size_t i = 0; i < t.edges.left.size(); ++i) {
+        const bool holds = t.edges.left[i] <= t.sites.position[site] && t.sites.position[site] < t.edges.right[i];
+        parent = parent || (holds && t.edges.child[i] == u);
+        child = child || (holds && t.edges.parent[i] == u);
+        ever = ever || t.edges.child[i] == u || t.edges.parent[i] == u;
+    }
+    for (std::size_t i = 0; i < t.mutations.site.size(); ++i)
+        if (t.mutations.node[i] == u) mutated = true, own = own || t.mutations.site[i] == site;
+    if (FFR_FAULT == 12) return missing && !mutated; // a mutation at another site counted as its own
+    if (FFR_FAULT == 14) return !parent && !own;     // missing by the parent alone
+    if (FFR_FAULT == 15) return !parent && !child;   // a mutation of its own not counted
+    if (FFR_FAULT == 16) return missing && !ever;    // an edge anywhere counted as one here
+    return missing;
+}
+
+// The planted faults in a panel's answer, before the blocks are looked at.
+reference::Answer misanswered(const Tables &t, reference::Answer a, const Column &sites, const Column &fish) {
+    if (FFR_FAULT == 0) return a;
+    const bool no_site = std::any_of(sites.begin(), sites.end(), [&](std::uint32_t s) { return s >= t.sites.position.size(); });
+    const bool no_fish = std::any_of(fish.begin(), fish.end(), [&](std::uint32_t b) {
+        return std::find(t.nodes.birth.begin(), t.nodes.birth.end(), b) == t.nodes.birth.end();
+    });
+    if (a.number != 0 && a.number != 13 && a.number < 41) return a;
+    if (FFR_FAULT == 10 && no_fish && !sites.empty()) return {42, 0};                       // by the list of fish first
+    if (FFR_FAULT == 20 && no_site && !fish.empty()) return {41, 0};                        // by the list of sites first
+    if (FFR_FAULT == 21 && (no_site || no_fish) && a.number == 0) return {no_site ? 41u : 42u, 0}; // a list looked at that has no cell
+    return a;
+}
+
+// The planted faults in a panel's cells.
+void spoil(reference::Panel &p, const Tables &t, const Column &sites, const Column &fish) {
+    const reference::Panel right = p;
+    for (std::size_t i = 0; i < fish.size() && FFR_FAULT != 0; ++i)
+        for (std::size_t j = 0; j < sites.size(); ++j) {
+            const std::size_t cell = i * sites.size() + j, turned = j * fish.size() + i;
+            if (FFR_FAULT == 9) p.states[turned] = right.states[cell], p.missing[turned] = right.missing[cell]; // site by site
+            if (FFR_FAULT == 22 && right.missing[cell] != 0) p.states[cell] = t.sites.ancestral[sites[j]];      // the made-up allele
+            if (FFR_FAULT < 12 || FFR_FAULT > 16 || cell > 10000) continue;
+            p.missing[cell] = misjudged(t, sites[j], fish[i], right.missing[cell] != 0) ? 1 : 0;
+            if (p.missing[cell] != right.missing[cell]) p.states[cell] = p.missing[cell] != 0 ? 0 : t.sites.ancestral[sites[j]];
+        }
+    const std::size_t portion = 1024 * sites.size();
+    if (FFR_FAULT == 19 && p.states.size() > portion) p.states.resize(portion); // fish past the first portion left out
+}
+
 } // namespace
 
 // A column as the calls take it, its cells, and a lent column.
@@ -129,4 +191,27 @@ extern "C" std::uint64_t ffr_join(
     if (FFR_FAULT == 8) batch.mutations = {}; // the batch's mutations forgotten
     reference::Result r = reference::join(length, input, batch, outs.room(0));
     return finish(r, input, outs);
+}
+
+extern "C" std::uint64_t ffr_alleles(
+    std::uint32_t length, IN32(time), IN32(birth), IN32(left), IN32(right), IN32(parent), IN32(child), IN32(position),
+    IN8(ancestral), IN32(site), IN32(node), IN8(derived), IN32(sites), IN32(fish), OUT8(states), OUT8(missing)) {
+    const Tables input BASE_TABLES;
+    const Out<std::uint8_t> first LENT(states), second LENT(missing);
+    const Column listed CELLS(sites), births CELLS(fish);
+    if (FFR_FAULT == 11 && first.length > 0) first.cells[0] = 0; // a byte written before a refusal
+    const std::size_t looked_at = FFR_FAULT == 18 ? first.length : second.length, room = std::min(first.length, looked_at); // 18: one block alone
+    reference::Panel p = reference::panel(length, misread(input), listed, births, first.length, looked_at);
+    if (FFR_FAULT == 17 && p.answer.number == 13 && static_cast<std::uint32_t>(births.size() * listed.size()) <= room) p.answer = {}; // wraps
+    if (FFR_FAULT == 24 && p.answer.number > 40 && room / listed.size() < births.size()) p.answer = {13, 7}; // room before the cells
+    p.answer = misanswered(input, p.answer, listed, births);
+    if (p.answer.number == 0 && !p.states.empty()) {
+        spoil(p, input, listed, births);
+        first.lay(p.states);
+        p.missing.resize(std::min(p.missing.size(), second.length));
+        second.lay(p.missing);
+        if (FFR_FAULT == 23 && p.missing.size() < second.length) second.cells[p.missing.size()] = 0; // a cell past the panel
+    }
+    const std::uint64_t number = p.answer.number;
+    return number * 4294967296u + p.answer.row;
 }

@@ -18,7 +18,8 @@ using Met = std::map<std::pair<std::uint32_t, std::uint32_t>, unsigned long>;
 struct Suite {
     unsigned long compared = 0, differ = 0, cells = 0, missed = 0;
     std::uint32_t pattern = 0;
-    Met cleanings, joins;
+    Met cleanings, joins, panels;
+    unsigned long singles = 0; // cells held to the single call
 
     void fail(const std::string &what) {
         if (++differ <= 20) std::printf("differs: %s\n", what.c_str());
@@ -76,6 +77,50 @@ struct Suite {
             fail(std::string(what) + ": an input changed");
         count(joins, r.answer);
         return r.answer;
+    }
+
+    // One panel with blocks of so many cells. Small ones are held to the single call too: each cell to that of the second implementation,
+    // and every eighth to the call that is tested, with lists of one.
+    reference::Answer panel(const char *what, const Record &record, const Column &sites, const Column &fish, std::size_t states, std::size_t missing) {
+        const Record copy = record;
+        const Column sites_copy = sites, fish_copy = fish;
+        const Blocks before(states, missing, pattern += 101);
+        Blocks after = before, want = before;
+        const std::uint64_t answer = call_alleles(record.length, record.tables, sites, fish, after);
+        const reference::Panel due = reference::panel(copy.length, copy.tables, sites_copy, fish_copy, states, missing);
+        ++compared;
+        cells += after.states.cells.size() + after.missing.cells.size();
+        want.lay(due);
+        if (answer != due.answer.number * 4294967296ull + due.answer.row)
+            fail(std::string(what) + ": answer " + std::to_string(ffr_number(answer)) + " " + std::to_string(ffr_row(answer)) + ", not " +
+                 std::to_string(due.answer.number) + " " + std::to_string(due.answer.row));
+        else if (const char *block = after.differs(want))
+            fail(std::string(what) + ": block " + block + ", answer " + std::to_string(due.answer.number));
+        if (!(copy.tables == record.tables) || sites_copy != sites || fish_copy != fish) fail(std::string(what) + ": an input changed");
+        if (due.answer.number == 0 && sites.size() * fish.size() <= 60) one_by_one(what, record, sites, fish, after);
+        count(panels, due.answer);
+        return due.answer;
+    }
+
+    reference::Answer panel(const char *what, const Record &record, const Column &sites, const Column &fish) {
+        return panel(what, record, sites, fish, sites.size() * fish.size(), sites.size() * fish.size());
+    }
+
+    // Each cell of a panel that is done against both single calls.
+    void one_by_one(const char *what, const Record &record, const Column &sites, const Column &fish, const Blocks &got) {
+        for (std::size_t i = 0; i < fish.size(); ++i)
+            for (std::size_t j = 0; j < sites.size(); ++j) {
+                const std::size_t cell = i * sites.size() + j;
+                const reference::Single due = reference::read_allele(record.tables, sites[j], fish[i]);
+                ++singles;
+                if (due.answer.number != 0 || got.states.cells[cell] != due.state || got.missing.cells[cell] != (due.missing ? 1 : 0))
+                    fail(std::string(what) + ": a cell against the second single call");
+                if (cell % 8 != 0) continue; // the tables are checked in each call
+                Blocks one(1, 1, pattern += 101);
+                const std::uint64_t answer = call_alleles(record.length, record.tables, {sites[j]}, {fish[i]}, one);
+                if (answer != 0 || got.states.cells[cell] != one.states.cells[0] || got.missing.cells[cell] != one.missing.cells[0])
+                    fail(std::string(what) + ": a cell against the call for it alone");
+            }
     }
 
     // How often each of these answers was met, and that no other was.

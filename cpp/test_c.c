@@ -1,4 +1,4 @@
-/* The raw call from plain C99: the scope paper's listing, cleaned for the chromosomes 501 and 502. */
+/* The raw calls from plain C99: the scope paper's listing, cleaned for the chromosomes 501 and 502, and a panel of its alleles. */
 #include "ffridwelan.h"
 
 #include <stdio.h>
@@ -24,8 +24,13 @@ int main(void) {
     static uint8_t out_derived[FFR_MOST_MUTATIONS];
     static uint32_t out_map[FFR_MOST_MAP];
     uint32_t rows[FFR_BLOCK_CELLS];
+
+    /* A panel: site rows and birth numbers, and two blocks of a byte for each pair; 601 is tied to nobody in the record below. */
+    const uint32_t with_time[] = {0, 0, 1, 2, 3, 0}, with_birth[] = {501, 502, 401, 301, 201, 601};
+    const uint32_t sites[] = {1, 0}, fish[] = {501, 502, 201, 601}, unknown[] = {501, 999};
+    uint8_t states[4 * 2], missing[4 * 2];
     uint64_t answer;
-    uint32_t i;
+    uint32_t i, j;
 
     answer = ffr_clean(10, CELLS(time), CELLS(birth), CELLS(left), CELLS(right), CELLS(parent), CELLS(child), CELLS(position),
                        CELLS(ancestral), CELLS(site), CELLS(node), CELLS(derived), CELLS(samples), CELLS(out_time),
@@ -47,5 +52,20 @@ int main(void) {
         if (out_map[i] == FFR_NONE) printf("-\n");
         else printf("%u\n", (unsigned)out_map[i]);
     }
+
+    answer = ffr_alleles(10, CELLS(with_time), CELLS(with_birth), CELLS(left), CELLS(right), CELLS(parent), CELLS(child),
+                         CELLS(position), CELLS(ancestral), CELLS(site), CELLS(node), CELLS(derived), CELLS(sites), CELLS(fish),
+                         CELLS(states), CELLS(missing));
+    if (ffr_number(answer) != FFR_DONE) return 1;
+    for (i = 0; i < 4; ++i)
+        for (j = 0; j < 2; ++j) {
+            printf("A %u %u ", (unsigned)fish[i], (unsigned)sites[j]);
+            if (missing[i * 2 + j]) printf("-\n");
+            else printf("%u\n", (unsigned)states[i * 2 + j]);
+        }
+    answer = ffr_alleles(10, CELLS(with_time), CELLS(with_birth), CELLS(left), CELLS(right), CELLS(parent), CELLS(child),
+                         CELLS(position), CELLS(ancestral), CELLS(site), CELLS(node), CELLS(derived), CELLS(sites), CELLS(unknown),
+                         CELLS(states), CELLS(missing));
+    printf("refused %u %u\n", (unsigned)ffr_number(answer), (unsigned)ffr_row(answer));
     return 0;
 }

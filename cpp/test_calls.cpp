@@ -4,9 +4,6 @@
 #include "cases.hpp"
 
 #include <cstdlib>
-#include <cstring>
-#include <pthread.h>
-#include <sys/mman.h>
 #include <thread>
 
 namespace testing {
@@ -130,6 +127,13 @@ void shared_inputs(Suite &s) {
     s.judge("shared inputs", answer, due, o, before);
 }
 
+// The sanitizers keep stacks of their own.
+#ifdef FFR_SANITIZED
+const bool kSanitized = true;
+#else
+const bool kSanitized = false;
+#endif
+
 // Several threads call at the same time.
 void threads(Suite &s) {
     const int count = 4;
@@ -146,24 +150,6 @@ void threads(Suite &s) {
         s.differ += one.differ;
         s.cells += one.cells;
     }
-}
-
-// One parent over so many samples, each below it in so many pieces with gaps between them, and two mutations at each of so many sites: more
-// finished edges, or mutations that move, than a cleaning keeps from its first sweep, so that it sweeps again.
-Record pieces_of_one_parent(std::uint32_t children, std::uint32_t pieces, std::uint32_t sites) {
-    Record r;
-    r.length = 2 * pieces * children + sites;
-    r.tables.nodes.add(9, 5000);
-    for (std::uint32_t c = 1; c <= children; ++c) {
-        r.tables.nodes.add(0, c);
-        r.samples.push_back(c);
-        for (std::uint32_t i = 0; i < pieces; ++i) r.tables.edges.add(2 * i * children + c % 2, 2 * (i + 1) * children - c, 0, c);
-    }
-    for (std::uint32_t i = 0; i < sites; ++i) {
-        r.tables.sites.add(i, 'A');
-        for (std::uint32_t c : {1 + i % children, 1 + (i + 1) % children}) r.tables.mutations.add(i, c, 'C');
-    }
-    return r;
 }
 
 // Results too long for what a cleaning keeps from its first sweep, in rooms that just take them and in ones that do not.
@@ -183,144 +169,19 @@ void swept_again(Suite &s) {
     }
 }
 
-// ---- the stack that a call takes, found by a thread on a painted one
+enum class Answers { clean, join, panel };
 
-const std::size_t kStack = 1 << 20;
-const std::size_t kMost = 220 * 1024; // what a call may take
-
-// The sanitizers keep stacks of their own.
-#ifdef FFR_SANITIZED
-const bool kSanitized = true;
-#else
-const bool kSanitized = false;
-#endif
-
-struct Call {
-    int kind = 0; // 0 none, 1 clean, 2 join
-    const char *what = "";
-    Record record;
-    Batch batch;
-    Outputs outputs{Rooms::limits(), 1};
-    std::uint64_t answer = 1;
-
-    Call() = default;
-    Call(int k, const char *w, Record r, Batch b) : kind(k), what(w), record(std::move(r)), batch(std::move(b)) {}
-};
-
-void *run_call(void *data) {
-    Call &c = *static_cast<Call *>(data);
-    if (c.kind == 1) c.answer = call_clean(c.record.length, c.record.tables, c.record.samples, c.outputs);
-    if (c.kind == 2) c.answer = call_join(c.record.length, c.record.tables, c.batch, c.outputs);
-    return nullptr;
-}
-
-// Runs a call on a stack of so many bytes, below which nothing can be written, and tells how many of them it has touched.
-std::size_t stack_used(Call &c, std::size_t bytes_lent) {
-    const std::size_t guard = 65536;
-    void *whole = mmap(nullptr, guard + bytes_lent, PROT_READ | PROT_WRITE, MAP_PRIVATE | MAP_ANONYMOUS, -1, 0);
-    if (whole == MAP_FAILED || mprotect(whole, guard, PROT_NONE) != 0) return 0;
-    unsigned char *memory = static_cast<unsigned char *>(whole) + guard;
-    std::memset(memory, 0xa5, bytes_lent);
-    pthread_attr_t attributes;
-    pthread_attr_init(&attributes);
-    pthread_attr_setstack(&attributes, memory, bytes_lent);
-    pthread_t thread;
-    std::size_t used = 0;
-    if (pthread_create(&thread, &attributes, run_call, &c) == 0) {
-        pthread_join(thread, nullptr);
-        std::size_t untouched = 0;
-        while (untouched < bytes_lent && memory[untouched] == 0xa5) ++untouched;
-        used = bytes_lent - untouched;
-    }
-    pthread_attr_destroy(&attributes);
-    munmap(whole, guard + bytes_lent);
-    return used;
-}
-
-// A line of nodes with one site and two mutations on its lowest node, all nodes older than 0 by so much.
-Record marked_line(std::uint32_t nodes, std::uint32_t older) {
-    Record r = line(nodes);
-    for (std::uint32_t &t : r.tables.nodes.time) t += older;
-    r.tables.sites.add(0, 'A');
-    for (char state : {'C', 'G'}) r.tables.mutations.add(0, 0, static_cast<std::uint8_t>(state));
-    return r;
-}
-
-// A line of nodes and one node beside it that is older than all; the first mutation of the site is on the lowest node, the second on the one
-// beside. So the younger one comes first, and rule 10 has to go up the whole line.
-Record younger_first(std::uint32_t nodes) {
-    Record r = line(nodes - 1);
-    r.tables.nodes.add(nodes, nodes);
-    r.tables.sites.add(0, 'A');
-    r.tables.mutations.add(0, 0, 'C');
-    r.tables.mutations.add(0, nodes - 1, 'G');
-    return r;
-}
-
-// The same line as a batch, whose edges and mutations name birth numbers: rule 26 goes up it.
-Batch as_batch(const Record &r) {
-    Batch b;
-    b.nodes = r.tables.nodes;
-    b.edges = r.tables.edges;
-    b.mutations = r.tables.mutations;
-    for (std::vector<std::uint32_t> *rows : {&b.edges.parent, &b.edges.child, &b.mutations.node})
-        for (std::uint32_t &row : *rows) row = r.tables.nodes.birth[row];
-    return b;
-}
-
-// The deepest and broadest calls that we know how to make.
-std::vector<Call> deep_calls() {
-    Random random(11);
-    Record broad = breeding(random, 48, 15, 100000, 400), hung = hanging(1000, 2000);
-    for (Record *r : {&broad, &hung})
-        for (std::uint32_t &t : r->tables.nodes.time) t += 6; // a batch can be younger
-    hung.tables.sites.add(0, 'A');
-    hung.tables.mutations.add(0, 0, 'C');
-    Batch lowest; // a lowest node that the batch brings, with its two mutations: rule 26
-    lowest.nodes.add(0, 5000);
-    lowest.edges.add(0, 7, 1, 5000);
-    for (char state : {'C', 'G'}) lowest.mutations.add(0, 5000, static_cast<std::uint8_t>(state));
-    std::vector<Call> calls;
-    for (int kind : {1, 2}) {
-        calls.emplace_back(kind, "a broad record", broad, random_batch(random, broad));
-        calls.emplace_back(kind, "two samples in turns under a line", hung, random_batch(random, hung));
-        calls.emplace_back(kind, "two mutations below a line (10)", marked_line(FFR_MOST_NODES, 0), Batch{});
-        calls.emplace_back(kind, "the younger mutation first, below a line (10)", younger_first(FFR_MOST_NODES), Batch{});
-        calls.emplace_back(kind, "one parent in many pieces", pieces_of_one_parent(256, 15, 512), Batch{});
-    }
-    Record above = marked_line(FFR_MOST_NODES - 1, 1);
-    above.tables.mutations = {};
-    calls.emplace_back(2, "two mutations below a line (26)", above, lowest);
-    Record sites_only;
-    sites_only.length = 7;
-    sites_only.tables.sites.add(0, 'A');
-    calls.emplace_back(2, "the younger mutation first, below a line (26)", sites_only, as_batch(younger_first(FFR_MOST_NODES)));
-    return calls;
-}
-
-void stack(Suite &s) {
-    Call none;
-    const std::size_t base = stack_used(none, kStack);
-    std::size_t most[3] = {0, 0, 0};
-    for (Call &call : deep_calls()) {
-        const std::size_t used = stack_used(call, kStack) - base;
-        std::printf("stack of a %s, %s: %zu bytes\n", call.kind == 1 ? "cleaning" : "join", call.what, used);
-        s.expect(call.answer == 0, "a call on a stack of 1 MB");
-        most[call.kind] = std::max(most[call.kind], used);
-        call.answer = 1;
-        stack_used(call, kMost); // a thread that has no more
-        s.expect(call.answer == 0, "a call on a stack of 220 KiB");
-    }
-    std::printf("most stack: cleaning %zu bytes, join %zu bytes\n", most[1], most[2]);
-    s.expect(std::max(most[1], most[2]) <= kMost, "220 KiB of stack are enough");
-}
-
-Met answers(bool joins) {
+Met answers(Answers call) {
     Met m;
     for (std::uint32_t n : {0u, 3u, 4u, 5u, 6u, 7u, 8u, 9u, 10u}) m[{n, 0}];
-    for (std::uint32_t t : {1u, 2u, 3u, 4u}) m[{1, t}], m[{2, t}], m[{13, t}];
+    for (std::uint32_t t : {1u, 2u, 3u, 4u}) m[{1, t}], m[{2, t}];
     m[{13, 7}];
-    if (joins) {
+    if (call == Answers::panel) {
+        m[{41, 0}], m[{42, 0}];
+        return m;
+    }
+    for (std::uint32_t t : {1u, 2u, 3u, 4u}) m[{13, t}];
+    if (call == Answers::join) {
         for (std::uint32_t n : {22u, 23u, 24u, 25u, 26u}) m[{n, 0}];
         for (std::uint32_t t : {1u, 2u, 4u}) m[{20, t}], m[{21, t}];
     } else {
@@ -353,9 +214,11 @@ int main(int count, char **words) {
     join_limits(s);
     random_joins(s, random, rounds);
     runs(s, random, rounds / 50);
+    panels(s, random, rounds);
     if (!kSanitized && rounds >= kEnough) stack(s); // not for the short run under valgrind
-    s.report("clean", s.cleanings, answers(false));
-    s.report("join", s.joins, answers(true));
-    std::printf("%lu cells\n%lu compared, %lu differ\n", s.cells, s.compared, s.differ);
+    s.report("clean", s.cleanings, answers(Answers::clean));
+    s.report("join", s.joins, answers(Answers::join));
+    s.report("alleles", s.panels, answers(Answers::panel));
+    std::printf("%lu cells of panels held to the single call\n%lu cells\n%lu compared, %lu differ\n", s.singles, s.cells, s.compared, s.differ);
     return s.differ == 0 && (s.missed == 0 || rounds < kEnough) ? 0 : 1;
 }

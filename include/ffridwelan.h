@@ -1,10 +1,10 @@
 /*
- * Ffridwelan: cleaning and joining of ancestry tables, called from C99 or C++ on x86-64 Linux.
- * The code behind these two calls is proved; this header only says how to reach it.
+ * Ffridwelan: cleaning and joining of ancestry tables and reading of alleles, called from C99 or C++ on x86-64 Linux.
+ * The code behind these three calls is proved; this header only says how to reach it.
  *
  * A NODE IS ONE CHROMOSOME, and so is every "fish", birth number and sample below. A diploid fish is two nodes with two
- * birth numbers, and both are listed as samples to keep the fish. One number for each fish gives tables that pass every
- * check and an ancestry that is wrong; no call can see it.
+ * birth numbers, and both are listed as samples to keep the fish, and in a panel to read it. One number for each fish gives
+ * tables that pass every check and an ancestry that is wrong; no call can see it.
  *
  * A birth number is given once and never again. A join refuses one that is in the record (FFR_BATCH_BIRTH), but it cannot
  * see one whose node was cleaned away: given again, that one is taken for a new chromosome without a word.
@@ -15,15 +15,15 @@
  * Columns.  A table is a set of columns, each an array and its length in cells. Rows count from 0.
  * - Every pointer must be aligned for its type and must not be null, also where the length is 0: an
  *   empty column is the address of any cell and length 0. (The wrapper ffridwelan.hpp sees to this.)
- * - An output column must overlap nothing: no input column, no other output column, not the block. Input columns are only
- *   read, and may overlap each other, wholly or in part.
+ * - An output column must overlap nothing: no input column, no other output column, not the block; nor may either block of
+ *   ffr_alleles. Input columns and lists are only read, and may overlap each other, wholly or in part.
  * - Nothing else may write any column while a call runs.
  *
  * Answers.  A call returns number * 4294967296 + row; ffr_number and ffr_row take them apart.
  * - Done: the number and the row are 0, the result stands at the front of each output column, and the
  *   block has the rows written in tables 1 to 4. Cells past the result, and past the block's fourth,
- *   keep their values.
- * - Refused: the number says why and the row says where. No cell changes, those of the block included.
+ *   keep their values. (ffr_alleles has two blocks of bytes in place of columns and block; the same holds for them.)
+ * - Refused: the number says why and the row says where. No cell changes, those of the blocks included.
  *
  * The room of an output table is its shortest column. The node map needs a cell for each INPUT node row, however few nodes
  * are kept. FFR_MOST_NODES, FFR_MOST_EDGES, FFR_MOST_SITES, FFR_MOST_MUTATIONS and FFR_MOST_MAP cells are enough for every
@@ -33,7 +33,7 @@
  * Any input is taken, broken rows too: no call crashes, and none runs for ever. A call keeps no state,
  * allocates nothing and reads and writes no file, so threads may call at the same time, each with its own outputs.
  * It needs stack: a thread with 220 KiB can make every call that the tests know how to make (the most that one takes is
- * 193,544 bytes for ffr_clean and 145,800 for ffr_join).
+ * 193,544 bytes for ffr_clean, 145,800 for ffr_join and @STACK@ for ffr_alleles).
  */
 #ifndef FFRIDWELAN_H
 #define FFRIDWELAN_H
@@ -68,12 +68,13 @@ enum ffr_table {
     FFR_MUTATIONS = 4,
     FFR_SAMPLES = 5,
     FFR_MAP = 6,
-    FFR_BLOCK = 7
+    FFR_BLOCK = 7 /* the block of row counts; in ffr_alleles either block of bytes */
 };
 
 /*
  * The numbers of the answers, and what the row counts. The lowest number that applies is given, FFR_NO_ROOM
- * after all others, with the lowest row that it applies to.
+ * after all others, with the lowest row that it applies to. (FFR_NO_SITE and FFR_NO_BIRTH go by the order of the
+ * cells: see ffr_alleles.)
  */
 enum ffr_answer {
     FFR_DONE = 0,                /* row 0 */
@@ -96,7 +97,9 @@ enum ffr_answer {
     FFR_BATCH_EDGE = 23,         /* batch edge row: child not in the batch, parent nowhere, or broken as in 5 */
     FFR_BATCH_SHARED = 24,       /* batch edge row: it shares a position with an earlier batch edge of that child */
     FFR_BATCH_MUTATION = 25,     /* batch mutation row: no such site, or its node is not in the batch */
-    FFR_BATCH_ABOVE = 26         /* batch mutation row: as 10, among the batch's mutations at one site */
+    FFR_BATCH_ABOVE = 26,        /* batch mutation row: as 10, among the batch's mutations at one site */
+    FFR_NO_SITE = 41,            /* row 0: a listed site row is not in the record */
+    FFR_NO_BIRTH = 42            /* row 0: no node has a listed birth number */
 };
 
 #ifdef __cplusplus
@@ -184,6 +187,42 @@ uint64_t ffr_join(
     uint8_t *out_derived, size_t out_derived_len,            /* joined mutations: derived state */
     uint32_t *block, size_t block_len);                      /* rows written: nodes, edges, sites, mutations */
 
+/*
+ * Alleles for a whole panel: the state of each listed chromosome at each listed site, chromosome by chromosome. The cell of
+ * fish[i] and sites[j] is i * sites_len + j in both blocks. Answers 0 to 10, 13, 41 and 42.
+ *
+ * The state is that of the last mutation at the site on the nearest node at or above the chromosome, at the site's position,
+ * that has one there; with none on the way up it is the site's ancestral state. A chromosome with no parent and no child at
+ * the site's position and no mutation of its own at that site is missing there: its state byte is 0 and its missing byte 1.
+ * Everywhere else the missing byte is 0. (A state may be 0 too: ask the missing byte, not the state.)
+ *
+ * Either list may repeat entries, be empty, be in any order and be longer than any table. Refusals, in this order:
+ * - FFR_COLUMNS to FFR_MUTATION_ABOVE (1 to 10), for the tables;
+ * - the first cell, in the order of the block, whose site row does not exist (FFR_NO_SITE) or whose birth number names no
+ *   node (FFR_NO_BIRTH), row 0; in one cell FFR_NO_SITE goes first. Where a list is empty there is no cell, so the entries
+ *   of the other one are not looked at;
+ * - FFR_NO_ROOM, row FFR_BLOCK, if either block has fewer than fish_len * sites_len cells. This number may pass 2 to the 32
+ *   and 2 to the 64: nothing wraps, for no such product is made, and a panel of more cells than a block can have is refused.
+ * After a refusal no byte of either block has changed; after 0 the bytes past the panel have kept their values.
+ */
+uint64_t ffr_alleles(
+    uint32_t length,                                         /* the chromosome's length */
+    const uint32_t *time, size_t time_len,                   /* nodes: time */
+    const uint32_t *birth, size_t birth_len,                 /* nodes: birth number */
+    const uint32_t *left, size_t left_len,                   /* edges: left */
+    const uint32_t *right, size_t right_len,                 /* edges: right */
+    const uint32_t *parent, size_t parent_len,               /* edges: node row of the parent */
+    const uint32_t *child, size_t child_len,                 /* edges: node row of the child */
+    const uint32_t *position, size_t position_len,           /* sites: position */
+    const uint8_t *ancestral, size_t ancestral_len,          /* sites: ancestral state */
+    const uint32_t *site, size_t site_len,                   /* mutations: site row */
+    const uint32_t *node, size_t node_len,                   /* mutations: node row */
+    const uint8_t *derived, size_t derived_len,              /* mutations: derived state */
+    const uint32_t *sites, size_t sites_len,                 /* the panel's sites: site rows, not positions */
+    const uint32_t *fish, size_t fish_len,                   /* the panel's chromosomes: birth numbers, two for a diploid fish */
+    uint8_t *states, size_t states_len,                      /* first block: the state, 0 where missing; fish_len * sites_len cells */
+    uint8_t *missing, size_t missing_len);                   /* second block: 1 where missing, else 0; as many cells */
+
 /* The number of an answer: one of enum ffr_answer. */
 static inline uint32_t ffr_number(uint64_t answer) {
     return (uint32_t)(answer >> 32);
@@ -218,6 +257,8 @@ static inline const char *ffr_reason(uint32_t number) {
     case FFR_BATCH_SHARED: return "two batch edges of one child share a position";
     case FFR_BATCH_MUTATION: return "a batch mutation names no site, or no fish of the batch";
     case FFR_BATCH_ABOVE: return "a batch mutation is above an earlier one of its site";
+    case FFR_NO_SITE: return "a listed site is not in the record";
+    case FFR_NO_BIRTH: return "a listed birth number names no node";
     default: return "no such answer";
     }
 }

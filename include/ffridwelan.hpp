@@ -1,4 +1,4 @@
-// Ffridwelan for C++17: tables as vectors, and the two calls of ffridwelan.h with all room given.
+// Ffridwelan for C++17: tables as vectors, and the three calls of ffridwelan.h with all room given.
 // Header only, nothing but the standard library; link libffr.a.
 // A node is ONE CHROMOSOME: a diploid fish is two nodes, with two birth numbers (see the head of ffridwelan.h).
 #ifndef FFRIDWELAN_HPP
@@ -6,6 +6,7 @@
 
 #include "ffridwelan.h"
 
+#include <algorithm>
 #include <array>
 #include <cstddef>
 #include <cstdint>
@@ -106,6 +107,19 @@ struct Cleaned {
     Column map;
 };
 
+// The alleles of listed chromosomes at listed sites: those of chromosome i are the cells from i * sites on, in list order.
+struct Panel {
+    std::size_t fish = 0, sites = 0; // entries of the lists
+    States states, missing;          // the state, 0 where missing; and 1 where missing, else 0
+
+    // The state of chromosome i of the list at listed site j, or nothing where it is missing: that is not the ancestral state.
+    std::optional<std::uint8_t> state(std::size_t i, std::size_t j) const {
+        const std::size_t cell = i * sites + j;
+        if (missing[cell] != 0) return std::nullopt;
+        return states[cell];
+    }
+};
+
 namespace detail {
 
 // The cells of a column to read; an empty vector may have a null pointer, which the call must not be given.
@@ -193,6 +207,26 @@ inline std::variant<Tables, Refusal> join(std::uint32_t length, const Tables &t,
     if (answer != 0) return detail::refusal(answer);
     detail::trim(o, rows);
     return o;
+}
+
+// The alleles of these chromosomes (birth numbers, two for each diploid fish) at these sites (site rows, not positions). Lists
+// may be in any order and repeat entries. A panel of more cells than a vector can have is given no cell, so that it is refused
+// as any other without room: FFR_NO_ROOM, row FFR_BLOCK, if nothing else is wrong. (Two bytes are allocated for each cell.)
+inline std::variant<Panel, Refusal> alleles(std::uint32_t length, const Tables &t, const Column &sites, const Column &fish) {
+    Panel panel;
+    panel.sites = sites.size();
+    panel.fish = fish.size();
+    const bool countable = sites.empty() || fish.size() <= panel.states.max_size() / sites.size();
+    const std::size_t cells = countable ? fish.size() * sites.size() : 0;
+    for (States *block : {&panel.states, &panel.missing}) block->resize(std::max<std::size_t>(cells, 1)); // one at least: no null pointer
+    const std::uint64_t answer = ffr_alleles(
+        length, FFR_READ(t.nodes.time), FFR_READ(t.nodes.birth), FFR_READ(t.edges.left), FFR_READ(t.edges.right),
+        FFR_READ(t.edges.parent), FFR_READ(t.edges.child), FFR_READ(t.sites.position), FFR_READ(t.sites.ancestral),
+        FFR_READ(t.mutations.site), FFR_READ(t.mutations.node), FFR_READ(t.mutations.derived), FFR_READ(sites),
+        FFR_READ(fish), panel.states.data(), cells, panel.missing.data(), cells);
+    if (answer != 0) return detail::refusal(answer);
+    for (States *block : {&panel.states, &panel.missing}) block->resize(cells);
+    return panel;
 }
 
 #undef FFR_READ

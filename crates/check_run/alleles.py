@@ -1,6 +1,7 @@
-"""Writes the last group of stdin: alleles of random sound tables, by a second reading that goes through every edge for every answer.
+"""Writes the last two groups of stdin: alleles and panels of random sound tables, by a second reading that goes through every edge for
+every answer.
 
-usage: python3 alleles.py     (in this folder; the seed is fixed, and what stands above the group stays as it is)
+usage: python3 alleles.py     (in this folder; the seeds are fixed, and what stands above the groups stays as it is)
 
 A fish is missing at a site where no edge over the position names it and no mutation of the site is on it; 256, which is no byte, says so.
 """
@@ -8,7 +9,9 @@ import pathlib
 import random
 
 HEAD = "G alleles of random tables, by a second reading\n"
+PANELS = "G panels of random tables, by a second reading\n"
 TABLES = 180
+EACH = 3  # panels of each table
 
 
 def tables(rng):
@@ -51,16 +54,51 @@ def allele(edges, sites, mutations, site, node):
         node = up[0]
 
 
-def lines(rng):
-    length, nodes, edges, sites, mutations = tables(rng)
+def put(length, nodes, edges, sites, mutations):
+    """The lines that give the tables."""
     yield f"S 12 12 {length}"
     columns = [[r[k] for r in rows] for rows, width in ((nodes, 2), (edges, 4), (sites, 2), (mutations, 3)) for k in range(width)]
     for number, column in enumerate(columns):
         yield " ".join(map(str, ["R", number, *column]))
+
+
+def lines(rng):
+    length, nodes, edges, sites, mutations = tables(rng)
+    yield from put(length, nodes, edges, sites, mutations)
     yield "R 11"
     for site in range(len(sites)):
         for node in range(len(nodes)):
             yield f"A {site} {nodes[node][1]} 0 0 {allele(edges, sites, mutations, site, node)}"
+
+
+def panel(rng, nodes, edges, sites, mutations):
+    """One panel: lists with repeats, now and then an entry that names nothing, blocks with a few bytes more than asked or one less."""
+    births = [birth for _, birth in nodes]
+    rows = [rng.randrange(len(sites)) for _ in range(rng.randint(0, 4))]
+    fish = [rng.choice(births) for _ in range(rng.randint(0, 5))]
+    if rows and rng.random() < 0.1:
+        rows[rng.randrange(len(rows))] = len(sites)
+    if fish and rng.random() < 0.1:
+        fish[rng.randrange(len(fish))] = 100
+    cells = len(rows) * len(fish)
+    room = [max(0, cells + rng.choice((0, 0, 0, 1, 2, 5, 17, -1))) for _ in range(2)]
+    for birth in fish:
+        for row in rows:
+            if row == len(sites):
+                return [rows, fish, room, 41, 0, []]
+            if birth == 100:
+                return [rows, fish, room, 42, 0, []]
+    if min(room) < cells:
+        return [rows, fish, room, 13, 7, []]
+    return [rows, fish, room, 0, 0, [allele(edges, sites, mutations, row, births.index(birth)) for birth in fish for row in rows]]
+
+
+def panel_lines(rng):
+    length, nodes, edges, sites, mutations = tables(rng)
+    yield from put(length, nodes, edges, sites, mutations)
+    for _ in range(EACH):
+        rows, fish, room, number, row, cells = panel(rng, nodes, edges, sites, mutations)
+        yield " ".join(map(str, ["P", len(rows), len(fish), *room, number, row, len(cells), *rows, *fish, *cells]))
 
 
 def main():
@@ -68,9 +106,11 @@ def main():
     text = path.read_text()
     if HEAD in text:
         text = text[: text.index(HEAD)]
-    rng = random.Random(103)
-    made = [line for _ in range(TABLES) for line in lines(rng)]
-    path.write_text(text.rstrip("\n") + "\n\n" + HEAD + "\n".join(made) + "\n")
+    text = text.rstrip("\n") + "\n"
+    for head, made, seed in ((HEAD, lines, 103), (PANELS, panel_lines, 100)):
+        rng = random.Random(seed)
+        text += "\n" + head + "".join(line + "\n" for _ in range(TABLES) for line in made(rng))
+    path.write_text(text)
 
 
 if __name__ == "__main__":

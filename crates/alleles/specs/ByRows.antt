@@ -26,7 +26,7 @@ use Rattle.alleles.specs.Alone.{childRow, missingRow, parent-there, chil
 
 module _ (M : MutationColumns) (i m v : ℕ) (l : v < m) where
   -- a row is marked exactly if it has a mutation at the site
-  marks-at : marked (marksOf M i m) v ≡ carries (mutsOf (λ r. r) M) i v
+  pub marks-at : marked (marksOf M i m) v ≡ carries (mutsOf (λ r. r) M) i v
   unfolding marked marksOf mark
   marks-at = ap (λ c. eqb c 1) (get-rows (λ v. mark (carries (mutsOf (λ r. r) M) i v) 0) 0 m v l) ∙ one (carries (mutsOf (λ r. r) M) i v)
     where
@@ -34,7 +34,7 @@ module _ (M : MutationColumns) (i m v : ℕ) (l : v < m) where
       one true = refl
       one false = refl
 
-  states-at : (other : ℕ) → at (statesOf M i other m) v ≡ lastState i v (mutsOf (λ r. r) M) other
+  pub states-at : (other : ℕ) → at (statesOf M i other m) v ≡ lastState i v (mutsOf (λ r. r) M) other
   unfolding statesOf
   states-at other = get-rows (λ v. lastState i v (mutsOf (λ r. r) M) other) 0 m v l
 

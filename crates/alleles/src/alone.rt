@@ -7,7 +7,7 @@ ghost use Rattle.alleles.specs.Alone.{underRow, childRow, missingRow};
 ghost use Rattle.alleles.specs.Reading.{Climbable};
 
 // Whether edge row e holds at x and has u as its parent.
-fn is_under(left: &[u32], right: &[u32], parent: &[u32], x: u32, u: u32, e: usize) -> bool
+pub fn is_under(left: &[u32], right: &[u32], parent: &[u32], x: u32, u: u32, e: usize) -> bool
     requires { ⌜ (e < length (now left)) × (e < length (now right)) × (e < length (now parent)) ⌝ }
     ensures { λ r. ⌜ r ≡ underRow (now (left .entry)) (now (right .entry)) (now (parent .entry)) x u e ⌝ }
 {

@@ -1,6 +1,8 @@
 // What the lines of the input do: they build tables, or ask the calls on them.
+use crate::panels;
 use crate::tally;
 use crate::tally::Tally;
+use crate::wide;
 use check_tables::base;
 use check_tables::base::Sizes;
 use check_tables::block;
@@ -88,22 +90,32 @@ fn ask(head: u8, a: &[u32], w: &[u32], s: &[u8], t: Tally) -> Tally {
     if head == b'B' {
         return both(a, w, s, t);
     }
+    if head == b'P' {
+        return panels::ask(a, w, s, t);
+    }
+    if head == b'W' {
+        return wide::ask(a, w, s, t);
+    }
     check(a, w, s, t)
 }
 
 // Where the edits of a line start.
-fn edits(head: u8) -> u32 {
+fn edits(head: u8, a: &[u32]) -> u32 {
     if head == b'A' {
         return 6;
+    }
+    if head == b'P' {
+        return panels::edits_start(a);
     }
     3
 }
 
 // Makes the edits, asks, and takes the edits back.
 fn ask_edited(head: u8, a: &mut [u32], w: &mut [u32], s: &mut [u8], t: Tally) -> Tally {
-    edit(a, edits(head), w, s);
+    let k = edits(head, a);
+    edit(a, k, w, s);
     let after = ask(head, a, w, s, t);
-    mend(a, edits(head), w, s);
+    mend(a, k, w, s);
     after
 }
 
@@ -121,7 +133,10 @@ pub fn obey(head: u8, a: &mut [u32], n: u32, w: &mut [u32], s: &mut [u8], t: Tal
         block::put(w, s, at(a, 1), at(a, 2), at(a, 3));
         return t;
     }
-    if head == b'A' || head == b'B' || head == b'C' {
+    if head == b'W' {
+        return ask(head, a, w, s, t);
+    }
+    if head == b'A' || head == b'B' || head == b'C' || head == b'P' {
         return ask_edited(head, a, w, s, t);
     }
     t

@@ -127,3 +127,14 @@ pub fn judge(t: Tally, got: Answer, number: u32, row: u32, state: u32) -> Tally 
     wrong(t.line, got);
     counted(t, t.right)
 }
+
+// Counts a case of n cells, and says which is the first that is not as it is due, where there is one.
+pub fn judge_cells(t: Tally, first: u32, n: u32) -> Tally {
+    if first == n {
+        return counted(t, more(t.right));
+    }
+    write_number(b"line ", wide(t.line));
+    write_number(b" left another cell ", wide(first));
+    write(b"\n");
+    counted(t, t.right)
+}

@@ -1,11 +1,12 @@
-// The check and the allele call on the tables of two blocks, and their answers by 01's numbers.
+// The check, the allele call and the panel on the tables of two blocks, and their answers by 01's numbers.
 use crate::block;
 use crate::block::Column;
 use meaning::Allele;
 use meaning::Checked;
+use meaning::Panel;
 use meaning::Refusal;
 
-// A number and a row, and the state where an allele is read.
+// A number and a row, and the state where an allele is read, or how many bytes of each block a panel says it has written.
 pub struct Answer {
     pub number: usize,
     pub row: usize,
@@ -54,6 +55,17 @@ fn read(a: Allele) -> Answer {
     }
 }
 
+fn filled(p: Panel) -> Answer {
+    match p {
+        Panel::Done(n) => Answer {
+            number: 0,
+            row: 0,
+            state: (n % 4294967296) as u32,
+        },
+        Panel::Refused(r) => refusal(r),
+    }
+}
+
 // The check of the tables of two blocks.
 pub fn check(w: &[u32], s: &[u8]) -> Answer {
     checked(checker::check(
@@ -98,5 +110,38 @@ pub fn allele(w: &[u32], s: &[u8], site: u32, birth: u32) -> Answer {
         block::column_states(s, Column::DERIVED, block::get(w, Column::DERIVED as usize)),
         site,
         birth,
+    ))
+}
+
+// The panel of a list of site rows and a list of birth numbers, in the tables of two blocks.
+pub fn panel(
+    w: &[u32],
+    s: &[u8],
+    sites: &[u32],
+    fish: &[u32],
+    states: &mut [u8],
+    flags: &mut [u8],
+) -> Answer {
+    filled(panel::alleles(
+        block::get(w, Column::LENGTH as usize),
+        block::column_words(w, Column::TIME),
+        block::column_words(w, Column::BIRTH),
+        block::column_words(w, Column::LEFT),
+        block::column_words(w, Column::RIGHT),
+        block::column_words(w, Column::PARENT),
+        block::column_words(w, Column::CHILD),
+        block::column_words(w, Column::POSITION),
+        block::column_states(
+            s,
+            Column::ANCESTRAL,
+            block::get(w, Column::ANCESTRAL as usize),
+        ),
+        block::column_words(w, Column::SITE),
+        block::column_words(w, Column::NODE),
+        block::column_states(s, Column::DERIVED, block::get(w, Column::DERIVED as usize)),
+        sites,
+        fish,
+        states,
+        flags,
     ))
 }

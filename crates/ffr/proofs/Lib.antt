@@ -4,3 +4,4 @@ pub mod Packing
 pub mod Cleaning
 pub mod BatchRows
 pub mod Joining
+pub mod Panels

@@ -1,4 +1,4 @@
-// What both calls give: the answer as one number, and the rows written in the lent block.
+// What the calls give: the answer as one number, and the rows written in the lent block.
 ghost use mathlib.Core.Path.{_≡_};
 ghost use mathlib.Core.List.{[], _∷_};
 ghost use Prim.Native.Nat.{_+_, _*_, _<_, _≤_};

@@ -14,6 +14,7 @@ pub mod Files
 pub mod Printed
 pub mod Shown
 pub mod Listing
+pub mod Panel
 pub mod ByHand
 pub mod Errors
 pub mod Small

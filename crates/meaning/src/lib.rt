@@ -147,6 +147,12 @@ pub enum Allele {
     Refused(Refusal),
 }
 
+// The answer of a panel of alleles (M-100): the bytes written in each of its two blocks.
+pub enum Panel {
+    Done(usize),
+    Refused(Refusal),
+}
+
 // The answer of a call that writes tables 1 to 4: the rows written in each.
 pub enum Tabled {
     Done {

@@ -2,3 +2,4 @@
 pub mod Cleaning
 pub mod Joining
 pub mod Storing
+pub mod Panels

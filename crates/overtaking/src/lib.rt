@@ -13,7 +13,7 @@ ghost use Rattle.ancestry.specs.Index.{Whole};
 ghost use Rattle.overtaking.specs.Overtaken.{Rightwards, Lined, overtakenRow};
 use meaning::NodeTable;
 
-mod known; // answers of the lookup, kept
+pub mod known; // answers of the lookup, kept
 mod sites; // where a site's mutations end, and whether they stand older first
 mod bounds; // how far up a mutation's ancestors matter
 mod stamps; // stamping upwards, one mutation after another

@@ -1,0 +1,5 @@
+-- Laws that belong to no one function.
+pub mod Searching
+pub mod Scattering
+pub mod Taking
+pub mod Calling
