@@ -1,8 +1,8 @@
 # The calls from C: archive, tests, example, installation. The proofs and the other tests are run by rt (README.md).
 #
 #   make archive             prove crate ffr and write target/staticlib/libffr.a
-#   make ctest               the calls compared with a second implementation, from C++ and C
-#   make example             a breeding run by the calls, listed by target/bin/ffridwelan, and the alleles of its last fish
+#   make ctest               the calls compared with a second implementation, from C++ and C; no caller of the first interface can be built
+#   make example             a breeding run by the calls, listed by target/bin/ffridwelan, the alleles of its last fish, the stocks
 #   make faults              that the tests see planted faults
 #   make bench               the calls beside C++ baselines, in time and instructions (bench/run)
 #   make sanitize valgrind   the tests under the sanitizers and under valgrind (on x86-64)
@@ -40,8 +40,8 @@ LISTER := target/bin/ffridwelan
 OUT := target/cpp$(if $(filter 1,$(REFERENCE)),-reference)
 HEADERS := $(wildcard include/*) $(wildcard cpp/*.hpp) $(wildcard bench/*.hpp)
 REFERENCES := check clean join position alleles
-SOURCES := $(REFERENCES:%=cpp/reference_%.cpp) cpp/histories.cpp cpp/cases.cpp cpp/test_alleles.cpp cpp/test_stack.cpp cpp/test_calls.cpp
-FAULTS := $(shell seq 24)
+SOURCES := $(REFERENCES:%=cpp/reference_%.cpp) cpp/histories.cpp cpp/cases.cpp cpp/test_stocks.cpp cpp/test_alleles.cpp cpp/test_stack.cpp cpp/test_calls.cpp
+FAULTS := $(shell seq 32)
 
 COMPILE = $(CXX) -std=c++17 $(STRICT) $(CXXFLAGS) -pthread -Iinclude
 
@@ -90,6 +90,7 @@ $(OUT)/example: $(OUT)/example.o $(CALLS)
 	$(CXX) $(CXXFLAGS) $^ -o $@
 
 ctest: $(OUT)/test_calls $(OUT)/test_c
+	CC="$(CC)" CXX="$(CXX)" CFLAGS="$(CFLAGS)" CXXFLAGS="$(CXXFLAGS)" tools/old-callers $(OUT) $(CALLS)
 	$(RUN) $(OUT)/test_c > $(OUT)/test_c.out
 	cmp $(OUT)/test_c.out cpp/test_c.expected
 	$(RUN) $(OUT)/test_calls $(ROUNDS)

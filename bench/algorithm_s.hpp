@@ -44,7 +44,7 @@ class AlgorithmS {
         tail[u] = s;
     }
     std::uint32_t keep(std::uint32_t u) {
-        res.map[u] = res.out.add_node(in.time[u], in.birth[u]);
+        res.map[u] = res.out.add_node(in.time[u], in.birth[u], in.population[u]);
         return res.map[u];
     }
     // The edges of one output parent by child birth and left, joined where they touch.

@@ -10,6 +10,7 @@ namespace bench {
 // Nodes, edges and mutations of new births, which name fish by birth number.
 struct Batch {
     std::vector<std::uint32_t> time, birth, left, right, parent, child, site, node;
+    std::vector<std::uint16_t> population;
     std::vector<std::uint8_t> derived;
 };
 
@@ -20,10 +21,11 @@ inline void split(const Tables &t, Tables &base, Batch &batch) {
     std::vector<std::uint32_t> row(t.time.size());
     for (std::size_t i = 0; i < t.time.size(); ++i) {
         if (t.time[i] != youngest) {
-            row[i] = base.add_node(t.time[i], t.birth[i]);
+            row[i] = base.add_node(t.time[i], t.birth[i], t.population[i]);
         } else {
             batch.time.push_back(t.time[i]);
             batch.birth.push_back(t.birth[i]);
+            batch.population.push_back(t.population[i]);
         }
     }
     for (std::size_t e = 0; e < t.left.size(); ++e) {
@@ -50,7 +52,7 @@ inline Tables join_baseline(const Tables &base, const Batch &batch) {
     Tables t = base;
     std::unordered_map<std::uint32_t, std::uint32_t> row;
     row.reserve(base.birth.size() + batch.birth.size());
-    for (std::size_t i = 0; i < batch.time.size(); ++i) t.add_node(batch.time[i], batch.birth[i]);
+    for (std::size_t i = 0; i < batch.time.size(); ++i) t.add_node(batch.time[i], batch.birth[i], batch.population[i]);
     for (std::uint32_t i = 0; i < t.birth.size(); ++i) row.emplace(t.birth[i], i);
     for (std::size_t e = 0; e < batch.left.size(); ++e)
         t.add_edge(batch.left[e], batch.right[e], row.at(batch.parent[e]), row.at(batch.child[e]));

@@ -10,6 +10,7 @@ namespace bench {
 struct Tables {
     std::uint32_t len = 1;
     std::vector<std::uint32_t> time, birth;
+    std::vector<std::uint16_t> population;
     std::vector<std::uint32_t> left, right, parent, child;
     std::vector<std::uint32_t> position;
     std::vector<std::uint8_t> ancestral;
@@ -17,11 +18,14 @@ struct Tables {
     std::vector<std::uint8_t> derived;
     std::vector<std::uint32_t> samples;
 
-    std::uint32_t add_node(std::uint32_t t, std::uint32_t b) {
+    std::uint32_t add_node(std::uint32_t t, std::uint32_t b, std::uint16_t p) {
         time.push_back(t);
         birth.push_back(b);
+        population.push_back(p);
         return static_cast<std::uint32_t>(time.size() - 1);
     }
+    // A node of a made-up history: its population goes by its birth number, so that a wrong row shows.
+    std::uint32_t add_node(std::uint32_t t, std::uint32_t b) { return add_node(t, b, static_cast<std::uint16_t>(b * 40503u)); }
     void add_edge(std::uint32_t l, std::uint32_t r, std::uint32_t p, std::uint32_t c) {
         left.push_back(l);
         right.push_back(r);
@@ -118,6 +122,7 @@ inline Tables shuffled(std::size_t nodes) {
     for (std::uint32_t i = 0; i < to.size(); ++i) {
         u.time[to[i]] = t.time[i];
         u.birth[to[i]] = t.birth[i];
+        u.population[to[i]] = t.population[i];
     }
     for (auto &p : u.parent) p = to[p];
     for (auto &c : u.child) c = to[c];

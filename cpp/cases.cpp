@@ -7,7 +7,7 @@ Record listing() {
     Record r;
     r.length = 10;
     r.samples = {501, 502};
-    r.tables.nodes = {{0, 0, 1, 2, 3}, {501, 502, 401, 301, 201}};
+    r.tables.nodes = {{0, 0, 1, 2, 3}, {501, 502, 401, 301, 201}, {7, 0, 65535, 256, 3}};
     r.tables.edges = {{0, 4, 0, 0, 6, 0}, {10, 6, 10, 4, 10, 10}, {2, 2, 3, 3, 3, 4}, {0, 1, 2, 1, 1, 3}};
     r.tables.sites = {{5, 8}, {65, 67}};
     r.tables.mutations = {{0, 1, 1}, {3, 4, 2}, {84, 84, 71}};
@@ -17,7 +17,7 @@ Record listing() {
 Record line(std::uint32_t nodes) {
     Record r;
     r.length = 7;
-    for (std::uint32_t i = 0; i < nodes; ++i) r.tables.nodes.add(i, i + 1);
+    for (std::uint32_t i = 0; i < nodes; ++i) r.tables.nodes.add(i, i + 1, stock_of(i + 1));
     for (std::uint32_t i = 1; i < nodes; ++i) r.tables.edges.add(0, 7, i, i - 1);
     r.samples = {1, nodes};
     return r;
@@ -32,7 +32,7 @@ Column count_from(std::uint32_t first, std::size_t count) {
 Record steps(std::uint32_t edges) {
     Record r;
     r.length = edges;
-    r.tables.nodes = {{0, 1}, {1, 2}};
+    r.tables.nodes = {{0, 1}, {1, 2}, {9, 8}};
     for (std::uint32_t i = 0; i < edges; ++i) r.tables.edges.add(i, i + 1, 1, 0);
     r.samples = {1, 2};
     return r;
@@ -69,13 +69,14 @@ Record sampled(std::uint32_t samples) {
     Record r;
     r.tables.nodes.time.assign(300, 5);
     r.tables.nodes.birth = count_from(7, 300);
+    for (std::uint32_t birth : r.tables.nodes.birth) r.tables.nodes.population.push_back(stock_of(birth));
     r.samples = count_from(7, samples);
     return r;
 }
 
-// Columns of a record, by table, all of u32 but three.
+// Columns of a record, by table.
 template <class Use> void each_column(Tables &t, Use use) {
-    use(1, t.nodes.time), use(1, t.nodes.birth);
+    use(1, t.nodes.time), use(1, t.nodes.birth), use(1, t.nodes.population);
     use(2, t.edges.left), use(2, t.edges.right), use(2, t.edges.parent), use(2, t.edges.child);
     use(3, t.sites.position), use(3, t.sites.ancestral);
     use(4, t.mutations.site), use(4, t.mutations.node), use(4, t.mutations.derived);
@@ -84,11 +85,11 @@ template <class Use> void each_column(Tables &t, Use use) {
 } // namespace
 
 void by_hand(Suite &s) {
-    gives(s, "P1", listing(), {{{0, 0, 1, 2}, {501, 502, 401, 301}}, {{4, 4, 0, 6, 0, 6}, {6, 6, 4, 10, 4, 10}, {2, 2, 3, 3, 3, 3}, {0, 1, 0, 0, 1, 1}},
+    gives(s, "P1", listing(), {{{0, 0, 1, 2}, {501, 502, 401, 301}, {7, 0, 65535, 256}}, {{4, 4, 0, 6, 0, 6}, {6, 6, 4, 10, 4, 10}, {2, 2, 3, 3, 3, 3}, {0, 1, 0, 0, 1, 1}},
                                {{5, 8}, {65, 67}}, {{0, 1, 1}, {2, 3, 0}, {84, 84, 71}}});
     Record r = listing();
     r.samples = {501, 401};
-    gives(s, "P2", r, {{{0, 1}, {501, 401}}, {{0}, {10}, {1}, {0}}, {{5, 8}, {65, 67}}, {{0, 1, 1}, {1, 1, 1}, {84, 84, 71}}});
+    gives(s, "P2", r, {{{0, 1}, {501, 401}, {7, 65535}}, {{0}, {10}, {1}, {0}}, {{5, 8}, {65, 67}}, {{0, 1, 1}, {1, 1, 1}, {84, 84, 71}}});
     r.samples = {};
     gives(s, "P3", r, {{}, {}, {{5, 8}, {65, 67}}, {}});
     r.samples = {501, 501};
@@ -114,7 +115,7 @@ void by_hand(Suite &s) {
     r.tables.edges = {{0, 4}, {4, 10}, {2, 2}, {0, 0}};
     r.samples = {501, 401};
     r.tables.mutations = {};
-    gives(s, "touching edges", r, {{{0, 1}, {501, 401}}, {{0}, {10}, {1}, {0}}, {{5, 8}, {65, 67}}, {}});
+    gives(s, "touching edges", r, {{{0, 1}, {501, 401}, {7, 65535}}, {{0}, {10}, {1}, {0}}, {{5, 8}, {65, 67}}, {}});
 }
 
 // The premise of the customer's third demand: a fish named later must be listed, or its edge is shorter.
@@ -124,10 +125,10 @@ void named_later(Suite &s) {
     const auto *cleaned = std::get_if<ffridwelan::Cleaned>(&first);
     s.expect(cleaned != nullptr, "cleaned for 501 and 502");
     r.samples = {401, 501};
-    gives(s, "from the raw input", r, {{{1, 0}, {401, 501}}, {{0}, {10}, {0}, {1}}, {{5, 8}, {65, 67}}, {{0, 1, 1}, {0, 0, 0}, {84, 84, 71}}});
+    gives(s, "from the raw input", r, {{{1, 0}, {401, 501}, {65535, 7}}, {{0}, {10}, {0}, {1}}, {{5, 8}, {65, 67}}, {{0, 1, 1}, {0, 0, 0}, {84, 84, 71}}});
     if (cleaned == nullptr) return;
     r.tables = cleaned->tables;
-    gives(s, "from the cleaned", r, {{{1, 0}, {401, 501}}, {{4}, {6}, {0}, {1}}, {{5, 8}, {65, 67}}, {{0, 1, 1}, {0, 1, 1}, {84, 84, 71}}});
+    gives(s, "from the cleaned", r, {{{1, 0}, {401, 501}, {65535, 7}}, {{4}, {6}, {0}, {1}}, {{5, 8}, {65, 67}}, {{0, 1, 1}, {0, 1, 1}, {84, 84, 71}}});
 }
 
 void at_limits(Suite &s) {
@@ -155,7 +156,7 @@ void at_limits(Suite &s) {
 }
 
 void ragged(Suite &s) {
-    for (int which = 0; which < 11; ++which)
+    for (int which = 0; which < 12; ++which)
         for (int change : {-1, 1}) {
             Record r = listing();
             int i = 0;
@@ -171,9 +172,9 @@ void ragged(Suite &s) {
 
 // A call in exact room, then with each output column one cell short in turn, and with blocks of 0 to 5 cells.
 template <class Call> void in_tight_room(Suite &s, const Rooms &exact, Call call) {
-    const std::uint32_t table[] = {1, 1, 2, 2, 2, 2, 3, 3, 4, 4, 4, 6, 7};
+    const std::uint32_t table[] = {1, 1, 1, 2, 2, 2, 2, 3, 3, 4, 4, 4, 6, 7};
     call("exact room", exact);
-    for (std::size_t i = 0; i < 13; ++i) {
+    for (std::size_t i = 0; i < 14; ++i) {
         Rooms rooms = exact;
         const auto all_rooms = rooms.all();
         std::size_t &room = *all_rooms[i];
@@ -218,12 +219,12 @@ void join_limits(Suite &s) {
     };
     for (std::uint32_t over : {0u, 1u}) {
         Batch nodes, edges, mutations;
-        nodes.nodes = {Column(24 + over, 0), count_from(5000, 24 + over)};
+        nodes.nodes = {Column(24 + over, 0), count_from(5000, 24 + over), ffridwelan::Populations(24 + over, 4)};
         wants_join("joined nodes", line(1000), nodes, over ? 21 : 0, over ? 1 : 0);
-        edges.nodes = {{0}, {5000}};
+        edges.nodes = {{0}, {5000}, {4}};
         for (std::uint32_t i = 0; i < 96 + over; ++i) edges.edges.add(i, i + 1, 2, 5000);
         wants_join("joined edges", steps(4000), edges, over ? 21 : 0, over ? 2 : 0);
-        mutations.nodes = {{0}, {5000}};
+        mutations.nodes = {{0}, {5000}, {4}};
         for (std::uint32_t i = 0; i < 24 + over; ++i) mutations.mutations.add(i % 9, 5000, 67);
         wants_join("joined mutations", marked(9, 1000), mutations, over ? 21 : 0, over ? 4 : 0);
     }

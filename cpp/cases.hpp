@@ -6,7 +6,7 @@
 
 namespace testing {
 
-// The scope paper's listing.
+// The scope paper's listing, with a stock of its own for each node, which is copied.
 Record listing();
 
 // A line of nodes, each the parent of the one before, with the youngest and the oldest as samples.
@@ -29,6 +29,9 @@ void one_short(Suite &s, Random &random, int rounds);
 
 void join_cases(Suite &s, Random &random, int rounds);
 void join_limits(Suite &s);
+
+// Populations (test_stocks.cpp).
+void stocks(Suite &s, Random &random, int rounds);
 
 // Panels of alleles (test_alleles.cpp).
 void panels(Suite &s, Random &random, int rounds);

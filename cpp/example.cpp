@@ -1,9 +1,13 @@
 // A small breeding run: records births, joins a batch each generation, cleans every so often and at the end, and reads the
-// alleles of the living fish. It writes the stored form to standard output, for the program ffridwelan to list, and tells what
-// it does on standard error, the alleles last; called as `example panel` it writes the alleles to standard output instead.
+// alleles of the living fish and the stocks of what is kept. It writes the stored form to standard output, for the program
+// ffridwelan to list, and tells what it does on standard error, alleles and stocks last; called as `example panel` it writes
+// these two to standard output instead.
 //
 // The fish are diploid. A node of the tables is ONE CHROMOSOME, so that each fish is two nodes with two birth numbers, and
 // what a parent gives is a gamete: one chromosome, pieced together from the parent's two.
+//
+// The first dams are of the home stock, the first sires of a visiting line. A gamete counts to the stock of the chromosome
+// that gave it the longer stretch. That is this run's own rule: the calls copy the number and ask nothing of it.
 #include "ffridwelan.hpp"
 
 #include <cstdio>
@@ -20,9 +24,15 @@ const std::uint32_t kFish = 4;         // fish in each generation: the first hal
 const std::uint32_t kGenerations = 12; // after the founders
 const std::uint32_t kEvery = 4;        // generations between cleanings
 
-// The birth numbers of a fish's two chromosomes.
+const std::uint16_t kHome = 1, kVisiting = 2; // the stocks
+
+struct Chromosome {
+    std::uint32_t birth;
+    std::uint16_t stock;
+};
+
 struct Fish {
-    std::uint32_t from_dam, from_sire;
+    Chromosome from_dam, from_sire;
 };
 
 // What a call gave, or the end of the run with the refusal in words.
@@ -53,36 +63,41 @@ std::uint32_t next_birth() {
 Column chromosomes(const std::vector<Fish> &fish) {
     Column births;
     for (const Fish &f : fish) {
-        births.push_back(f.from_dam);
-        births.push_back(f.from_sire);
+        births.push_back(f.from_dam.birth);
+        births.push_back(f.from_sire.birth);
     }
     return births;
 }
 
-// The founders, and a marker every 100 positions.
+// The founders, dams of the home stock and sires of the visiting line, and a marker every 100 positions.
 Tables founders(std::vector<Fish> &living) {
     Tables record;
     for (std::uint32_t i = 0; i < kFish; ++i) {
+        const std::uint16_t stock = i < kFish / 2 ? kHome : kVisiting;
         const std::uint32_t a = next_birth(), b = next_birth();
-        living.push_back(Fish{a, b});
+        living.push_back(Fish{{a, stock}, {b, stock}});
+        record.nodes.add(kGenerations, a, stock);
+        record.nodes.add(kGenerations, b, stock);
     }
-    for (std::uint32_t birth : chromosomes(living)) record.nodes.add(kGenerations, birth);
     for (std::uint32_t x = 50; x < kLength; x += 100) record.sites.add(x, 'A');
     return record;
 }
 
 // A new chromosome: one of the parent's two up to a crossing-over, the other from there on; now and then with a mutation.
-std::uint32_t gamete(Batch &batch, std::uint32_t time, const Fish &parent, std::uint32_t sites) {
+Chromosome gamete(Batch &batch, std::uint32_t time, const Fish &parent, std::uint32_t sites) {
     const std::uint32_t birth = next_birth(), point = 1 + draw(kLength - 1);
     const bool dam_first = draw(2) == 0;
-    batch.nodes.add(time, birth);
-    batch.edges.add(0, point, dam_first ? parent.from_dam : parent.from_sire, birth);
-    batch.edges.add(point, kLength, dam_first ? parent.from_sire : parent.from_dam, birth);
+    const Chromosome &first = dam_first ? parent.from_dam : parent.from_sire;
+    const Chromosome &second = dam_first ? parent.from_sire : parent.from_dam;
+    const std::uint16_t stock = point >= kLength - point ? first.stock : second.stock; // that of the longer stretch
+    batch.nodes.add(time, birth, stock);
+    batch.edges.add(0, point, first.birth, birth);
+    batch.edges.add(point, kLength, second.birth, birth);
     if (draw(4) == 0) {
         const std::uint32_t site = draw(sites), state = draw(3); // one after the other, so that every compiler draws the same
         batch.mutations.add(site, birth, static_cast<std::uint8_t>("CGT"[state]));
     }
-    return birth;
+    return Chromosome{birth, stock};
 }
 
 // One generation: each new fish has a gamete of a dam and one of a sire.
@@ -91,7 +106,7 @@ Batch births(std::uint32_t time, std::uint32_t sites, std::vector<Fish> &living)
     std::vector<Fish> young;
     for (std::uint32_t i = 0; i < kFish; ++i) {
         const Fish &dam = living[draw(kFish / 2)], &sire = living[kFish / 2 + draw(kFish / 2)];
-        const std::uint32_t from_dam = gamete(batch, time, dam, sites), from_sire = gamete(batch, time, sire, sites);
+        const Chromosome from_dam = gamete(batch, time, dam, sites), from_sire = gamete(batch, time, sire, sites);
         young.push_back(Fish{from_dam, from_sire});
     }
     living = young;
@@ -125,8 +140,18 @@ void print_genotypes(std::FILE *out, const Tables &record, const std::vector<Fis
     for (std::uint32_t x : record.sites.position) std::fprintf(out, " %4u", x);
     std::fprintf(out, "\n");
     for (std::size_t i = 0; i < fish.size(); ++i) {
-        std::fprintf(out, "%4u, %4u", fish[i].from_dam, fish[i].from_sire);
+        std::fprintf(out, "%4u, %4u", fish[i].from_dam.birth, fish[i].from_sire.birth);
         for (std::size_t j = 0; j < sites.size(); ++j) std::fprintf(out, "  %c/%c", letter(panel, 2 * i, j), letter(panel, 2 * i + 1, j));
+        std::fprintf(out, "\n");
+    }
+}
+
+// The birth numbers of the record's chromosomes, living and not, stock by stock.
+void print_stocks(std::FILE *out, const Nodes &nodes) {
+    for (std::uint16_t stock : {kHome, kVisiting}) {
+        std::fprintf(out, "stock %u:", static_cast<unsigned>(stock));
+        for (std::size_t i = 0; i < nodes.birth.size(); ++i)
+            if (nodes.population[i] == stock) std::fprintf(out, " %u", nodes.birth[i]);
         std::fprintf(out, "\n");
     }
 }
@@ -150,7 +175,11 @@ int main(int count, char **words) {
                      record.edges.left.size());
     }
     print_genotypes(panel_only ? stdout : stderr, record, living);
+    print_stocks(panel_only ? stdout : stderr, record.nodes);
     if (panel_only) return 0;
+    // The stored form has no field for stocks, and writing refuses any but 0. So a run keeps them beside the file, by birth
+    // number, which no cleaning changes (here the lines just printed), and stores the tables without them.
+    record.nodes.population.assign(record.nodes.population.size(), 0);
     const auto bytes = stored(kLength, record, chromosomes(living));
     if (!bytes) return 1;
     std::fwrite(bytes->data(), 1, bytes->size(), stdout);

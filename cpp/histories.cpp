@@ -20,6 +20,9 @@ std::uint32_t fresh_birth(Random &r, std::set<std::uint32_t> &used) {
     }
 }
 
+// A population: mostly one of a few stocks, and any other too.
+std::uint16_t stock(Random &r) { return static_cast<std::uint16_t>(r.chance(60) ? r.below(4) : r.chance(20) ? 65535 : r.below(65536)); }
+
 std::uint8_t state(Random &r) { return static_cast<std::uint8_t>(r.chance(80) ? "ACGT"[r.below(4)] : r.below(256)); }
 
 // The chromosome cut at random places: 0, the cuts, the length.
@@ -117,12 +120,18 @@ void damage_tables(Random &r, std::uint32_t length, ffridwelan::Nodes &n, ffridw
     } else if (kind < 6 && n.birth.size() > 1) {
         n.birth[r.below(n.birth.size())] = n.birth[r.below(n.birth.size())];
     } else if (kind < 7) {
-        if (r.chance(25))
+        const std::uint32_t which = r.below(10);
+        if (which < 2)
             stretch(r, m.derived);
+        else if (which < 3)
+            stretch(r, n.population);
         else
             stretch(r, *columns[r.below(columns.size())]);
     } else if (kind < 8) {
-        shift_rows(r, r.below(3), n.time, n.birth);
+        if (r.chance(20) && !n.population.empty())
+            n.population[r.below(n.population.size())] = stock(r);
+        else
+            shift_rows(r, r.below(3), n.time, n.birth, n.population);
     } else if (kind < 10) {
         shift_rows(r, r.below(3), e.left, e.right, e.parent, e.child);
     } else {
@@ -151,7 +160,7 @@ Record random_record(Random &r, std::size_t most_nodes) {
     out.length = r.chance(90) ? 1 + r.below(40) : 1 + r.below(FFR_MOST_LENGTH);
     std::set<std::uint32_t> used;
     const std::uint32_t span = 1 + r.below(8), base = r.chance(95) ? 4 : kTop - span;
-    for (std::uint32_t i = r.below(most_nodes + 1); i > 0; --i) t.nodes.add(base + r.below(span), fresh_birth(r, used));
+    for (std::uint32_t i = r.below(most_nodes + 1); i > 0; --i) t.nodes.add(base + r.below(span), fresh_birth(r, used), stock(r));
     random_edges(r, out.length, t.nodes, 0, t.edges);
     sort_edges(t);
     std::set<std::uint32_t> positions;
@@ -174,12 +183,12 @@ Batch random_batch(Random &r, const Record &record) {
     ffridwelan::Nodes all = record.tables.nodes;
     const std::size_t first = all.time.size();
     std::set<std::uint32_t> used(all.birth.begin(), all.birth.end());
-    for (std::uint32_t i = r.below(7); i > 0; --i) all.add(r.below(6), fresh_birth(r, used));
+    for (std::uint32_t i = r.below(7); i > 0; --i) all.add(r.below(6), fresh_birth(r, used), stock(r));
     ffridwelan::Edges edges;
     random_edges(r, record.length, all, first, edges);
 
     Batch b;
-    for (std::size_t i = first; i < all.time.size(); ++i) b.nodes.add(all.time[i], all.birth[i]);
+    for (std::size_t i = first; i < all.time.size(); ++i) b.nodes.add(all.time[i], all.birth[i], all.population[i]);
     std::vector<std::size_t> order(edges.left.size());
     std::iota(order.begin(), order.end(), std::size_t{0});
     r.shuffle(order);
@@ -230,7 +239,7 @@ Record breeding(Random &r, std::size_t fish, std::size_t generations, std::uint3
     const auto row = [](std::size_t i) { return static_cast<std::uint32_t>(i); };
     for (std::size_t g = 0; g <= generations; ++g)
         for (std::size_t i = 0; i < fish; ++i) {
-            t.nodes.add(row(generations - g), row(1 + g * fish + i));
+            t.nodes.add(row(generations - g), row(1 + g * fish + i), stock_of(row(1 + g * fish + i)));
             if (g == 0) continue;
             const std::uint32_t a = row((g - 1) * fish) + r.below(fish), b = row((g - 1) * fish) + r.below(fish), c = row(g * fish + i);
             const std::uint32_t point = 1 + r.below(length - 1);
@@ -254,9 +263,9 @@ Record hanging(std::size_t nodes, std::size_t pieces) {
     Record out;
     out.length = static_cast<std::uint32_t>(2 * pieces);
     Tables &t = out.tables;
-    t.nodes.add(0, 1);
-    t.nodes.add(0, 2);
-    for (std::uint32_t i = 2; i < nodes; ++i) t.nodes.add(i, i + 1);
+    t.nodes.add(0, 1, stock_of(1));
+    t.nodes.add(0, 2, stock_of(2));
+    for (std::uint32_t i = 2; i < nodes; ++i) t.nodes.add(i, i + 1, stock_of(i + 1));
     for (std::uint32_t i = 0; i < pieces; ++i) t.edges.add(2 * i + i % 2, 2 * i + 1 + i % 2, 2, i % 2);
     for (std::uint32_t i = 3; i < nodes; ++i) t.edges.add(0, out.length, i, i - 1);
     sort_edges(t);
@@ -268,16 +277,16 @@ Record toggling(std::size_t pieces, std::uint32_t others) {
     Record out;
     out.length = static_cast<std::uint32_t>(2 * pieces);
     Tables &t = out.tables;
-    for (std::uint32_t i = 0; i < 3; ++i) t.nodes.add(0, 1 + i);
-    t.nodes.add(1, 4);
-    t.nodes.add(2, 5);
+    for (std::uint32_t i = 0; i < 3; ++i) t.nodes.add(0, 1 + i, stock_of(1 + i));
+    t.nodes.add(1, 4, stock_of(4));
+    t.nodes.add(2, 5, stock_of(5));
     for (std::uint32_t i = 0; i < pieces; ++i) t.edges.add(2 * i, 2 * i + 1, 3, 0);
     t.edges.add(0, out.length, 3, 1);
     t.edges.add(0, out.length, 4, 3);
     t.edges.add(0, out.length, 4, 2);
     out.samples = {1, 2, 3};
     for (std::uint32_t i = 0; i < others; ++i) {
-        t.nodes.add(0, 10 + i);
+        t.nodes.add(0, 10 + i, stock_of(10 + i));
         t.edges.add(0, out.length, 4, 5 + i);
         out.samples.push_back(10 + i);
     }
@@ -288,9 +297,9 @@ Record toggling(std::size_t pieces, std::uint32_t others) {
 Record pieces_of_one_parent(std::uint32_t children, std::uint32_t pieces, std::uint32_t sites) {
     Record r;
     r.length = 2 * pieces * children + sites;
-    r.tables.nodes.add(9, 5000);
+    r.tables.nodes.add(9, 5000, stock_of(5000));
     for (std::uint32_t c = 1; c <= children; ++c) {
-        r.tables.nodes.add(0, c);
+        r.tables.nodes.add(0, c, stock_of(c));
         r.samples.push_back(c);
         for (std::uint32_t i = 0; i < pieces; ++i) r.tables.edges.add(2 * i * children + c % 2, 2 * (i + 1) * children - c, 0, c);
     }

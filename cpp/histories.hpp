@@ -34,6 +34,9 @@ struct Random {
     }
 };
 
+// The population of a fixed history's node, by its birth number: few are equal, so that one from a wrong row shows.
+inline std::uint16_t stock_of(std::uint32_t birth) { return static_cast<std::uint16_t>(birth * 40503u); }
+
 struct Record {
     std::uint32_t length = 1;
     Tables tables;
@@ -49,7 +52,7 @@ Record random_record(Random &r, std::size_t most_nodes);
 // A batch that mostly joins to the record.
 Batch random_batch(Random &r, const Record &record);
 
-// One change that may break a rule.
+// One change that may break a rule (another population breaks none).
 void damage(Random &r, Record &record);
 void damage(Random &r, Batch &batch);
 

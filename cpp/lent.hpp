@@ -24,22 +24,22 @@ template <class T> struct Lent {
         room = count;
         cells.resize(count + kGuard);
         for (std::size_t i = 0; i < cells.size(); ++i)
-            cells[i] = static_cast<T>((static_cast<std::uint32_t>(i) + pattern) * 2654435761u >> (sizeof(T) == 1 ? 24 : 0));
+            cells[i] = static_cast<T>((static_cast<std::uint32_t>(i) + pattern) * 2654435761u >> (32 - 8 * sizeof(T)));
     }
 
     // The result laid to the front, as a call does that is done.
     void lay(const std::vector<T> &result) { std::copy(result.begin(), result.end(), cells.begin()); }
 };
 
-// The lengths of the thirteen lent columns.
+// The lengths of the fourteen lent columns.
 struct Rooms {
-    std::size_t time = 0, birth = 0, left = 0, right = 0, parent = 0, child = 0, position = 0, ancestral = 0;
+    std::size_t time = 0, birth = 0, population = 0, left = 0, right = 0, parent = 0, child = 0, position = 0, ancestral = 0;
     std::size_t site = 0, node = 0, derived = 0, map = 0, block = 4;
 
     // The same room in each column of a table.
     static Rooms even(std::size_t nodes, std::size_t edges, std::size_t sites, std::size_t mutations, std::size_t map) {
         Rooms r;
-        r.time = r.birth = nodes;
+        r.time = r.birth = r.population = nodes;
         r.left = r.right = r.parent = r.child = edges;
         r.position = r.ancestral = sites;
         r.site = r.node = r.derived = mutations;
@@ -58,13 +58,13 @@ struct Rooms {
     }
 
     std::vector<std::size_t *> all() {
-        return {&time, &birth, &left, &right, &parent, &child, &position, &ancestral, &site, &node, &derived, &map, &block};
+        return {&time, &birth, &population, &left, &right, &parent, &child, &position, &ancestral, &site, &node, &derived, &map, &block};
     }
 
     // Room as the scope paper has it: the shortest column of each table.
     reference::Room shortest() const {
         reference::Room r;
-        r.nodes = std::min(time, birth);
+        r.nodes = std::min({time, birth, population});
         r.edges = std::min({left, right, parent, child});
         r.sites = std::min(position, ancestral);
         r.mutations = std::min({site, node, derived});
@@ -75,7 +75,9 @@ struct Rooms {
 };
 
 struct Outputs {
-    Lent<std::uint32_t> time, birth, left, right, parent, child, position;
+    Lent<std::uint32_t> time, birth;
+    Lent<std::uint16_t> population;
+    Lent<std::uint32_t> left, right, parent, child, position;
     Lent<std::uint8_t> ancestral;
     Lent<std::uint32_t> site, node;
     Lent<std::uint8_t> derived;
@@ -95,6 +97,7 @@ struct Outputs {
         derived.lend(r.derived, pattern + 11);
         map.lend(r.map, pattern + 12);
         block.lend(r.block, pattern + 13);
+        population.lend(r.population, pattern + 14);
     }
 
     // What the columns must hold after a call with this result; a refused one leaves them.
@@ -103,6 +106,7 @@ struct Outputs {
         const Tables &t = r.tables;
         time.lay(t.nodes.time);
         birth.lay(t.nodes.birth);
+        population.lay(t.nodes.population);
         left.lay(t.edges.left);
         right.lay(t.edges.right);
         parent.lay(t.edges.parent);
@@ -121,6 +125,7 @@ struct Outputs {
     const char *differs(const Outputs &o) const {
         if (time.cells != o.time.cells) return "time";
         if (birth.cells != o.birth.cells) return "birth";
+        if (population.cells != o.population.cells) return "population";
         if (left.cells != o.left.cells) return "left";
         if (right.cells != o.right.cells) return "right";
         if (parent.cells != o.parent.cells) return "parent";
@@ -136,9 +141,9 @@ struct Outputs {
     }
 
     std::size_t cells() const {
-        return time.cells.size() + birth.cells.size() + left.cells.size() + right.cells.size() + parent.cells.size() +
-               child.cells.size() + position.cells.size() + ancestral.cells.size() + site.cells.size() + node.cells.size() +
-               derived.cells.size() + map.cells.size() + block.cells.size();
+        return time.cells.size() + birth.cells.size() + population.cells.size() + left.cells.size() + right.cells.size() +
+               parent.cells.size() + child.cells.size() + position.cells.size() + ancestral.cells.size() + site.cells.size() +
+               node.cells.size() + derived.cells.size() + map.cells.size() + block.cells.size();
     }
 };
 
@@ -169,28 +174,30 @@ struct Blocks {
 #define LEND(column) (column).cells.data(), (column).room
 
 inline std::uint64_t call_clean(std::uint32_t length, const Tables &t, const Column &samples, Outputs &o) {
-    return ffr_clean(length, READ(t.nodes.time), READ(t.nodes.birth), READ(t.edges.left), READ(t.edges.right),
-                     READ(t.edges.parent), READ(t.edges.child), READ(t.sites.position), READ(t.sites.ancestral),
-                     READ(t.mutations.site), READ(t.mutations.node), READ(t.mutations.derived), READ(samples), LEND(o.time),
-                     LEND(o.birth), LEND(o.left), LEND(o.right), LEND(o.parent), LEND(o.child), LEND(o.position),
-                     LEND(o.ancestral), LEND(o.site), LEND(o.node), LEND(o.derived), LEND(o.map), LEND(o.block));
+    return ffr_clean(length, READ(t.nodes.time), READ(t.nodes.birth), READ(t.nodes.population), READ(t.edges.left),
+                     READ(t.edges.right), READ(t.edges.parent), READ(t.edges.child), READ(t.sites.position),
+                     READ(t.sites.ancestral), READ(t.mutations.site), READ(t.mutations.node), READ(t.mutations.derived),
+                     READ(samples), LEND(o.time), LEND(o.birth), LEND(o.population), LEND(o.left), LEND(o.right),
+                     LEND(o.parent), LEND(o.child), LEND(o.position), LEND(o.ancestral), LEND(o.site), LEND(o.node),
+                     LEND(o.derived), LEND(o.map), LEND(o.block));
 }
 
 inline std::uint64_t call_join(std::uint32_t length, const Tables &t, const Batch &b, Outputs &o) {
-    return ffr_join(length, READ(t.nodes.time), READ(t.nodes.birth), READ(t.edges.left), READ(t.edges.right),
-                    READ(t.edges.parent), READ(t.edges.child), READ(t.sites.position), READ(t.sites.ancestral),
-                    READ(t.mutations.site), READ(t.mutations.node), READ(t.mutations.derived), READ(b.nodes.time),
-                    READ(b.nodes.birth), READ(b.edges.left), READ(b.edges.right), READ(b.edges.parent), READ(b.edges.child),
-                    READ(b.mutations.site), READ(b.mutations.node), READ(b.mutations.derived), LEND(o.time), LEND(o.birth),
+    return ffr_join(length, READ(t.nodes.time), READ(t.nodes.birth), READ(t.nodes.population), READ(t.edges.left),
+                    READ(t.edges.right), READ(t.edges.parent), READ(t.edges.child), READ(t.sites.position),
+                    READ(t.sites.ancestral), READ(t.mutations.site), READ(t.mutations.node), READ(t.mutations.derived),
+                    READ(b.nodes.time), READ(b.nodes.birth), READ(b.nodes.population), READ(b.edges.left),
+                    READ(b.edges.right), READ(b.edges.parent), READ(b.edges.child), READ(b.mutations.site),
+                    READ(b.mutations.node), READ(b.mutations.derived), LEND(o.time), LEND(o.birth), LEND(o.population),
                     LEND(o.left), LEND(o.right), LEND(o.parent), LEND(o.child), LEND(o.position), LEND(o.ancestral),
                     LEND(o.site), LEND(o.node), LEND(o.derived), LEND(o.block));
 }
 
 inline std::uint64_t call_alleles(std::uint32_t length, const Tables &t, const Column &sites, const Column &fish, Blocks &b) {
-    return ffr_alleles(length, READ(t.nodes.time), READ(t.nodes.birth), READ(t.edges.left), READ(t.edges.right),
-                       READ(t.edges.parent), READ(t.edges.child), READ(t.sites.position), READ(t.sites.ancestral),
-                       READ(t.mutations.site), READ(t.mutations.node), READ(t.mutations.derived), READ(sites), READ(fish),
-                       LEND(b.states), LEND(b.missing));
+    return ffr_alleles(length, READ(t.nodes.time), READ(t.nodes.birth), READ(t.nodes.population), READ(t.edges.left),
+                       READ(t.edges.right), READ(t.edges.parent), READ(t.edges.child), READ(t.sites.position),
+                       READ(t.sites.ancestral), READ(t.mutations.site), READ(t.mutations.node), READ(t.mutations.derived),
+                       READ(sites), READ(fish), LEND(b.states), LEND(b.missing));
 }
 
 #undef READ

@@ -1,5 +1,6 @@
 // The three calls of ffridwelan.h made by the second implementation, to be linked in place of the archive: for trying a
-// caller where there is no archive, and, with FFR_FAULT from 1 to 24 (9 and above in the panel), for showing that the tests see a fault.
+// caller where there is no archive, and, with FFR_FAULT from 1 to 32 (9 to 24 in the panel, 25 and above about populations), for
+// showing that the tests see a fault.
 #include "reference.hpp"
 
 #include <algorithm>
@@ -26,7 +27,9 @@ template <class T> struct Out {
 
 // The lent columns that both calls have.
 struct Outs {
-    Out<std::uint32_t> time, birth, left, right, parent, child, position;
+    Out<std::uint32_t> time, birth;
+    Out<std::uint16_t> population;
+    Out<std::uint32_t> left, right, parent, child, position;
     Out<std::uint8_t> ancestral;
     Out<std::uint32_t> site, node;
     Out<std::uint8_t> derived;
@@ -34,7 +37,8 @@ struct Outs {
 
     reference::Room room(std::size_t map) const {
         reference::Room r;
-        r.nodes = std::min(time.length, birth.length);
+        r.nodes = FFR_FAULT == 25 ? std::min(time.length, birth.length) // populations not counted in the room
+                                  : std::min({time.length, birth.length, population.length});
         r.edges = std::min({left.length, right.length, parent.length, child.length});
         r.sites = std::min(position.length, ancestral.length);
         r.mutations = std::min({site.length, node.length, derived.length});
@@ -47,6 +51,9 @@ struct Outs {
         const auto rows = [](std::size_t count) { return static_cast<std::uint32_t>(count); };
         time.lay(t.nodes.time);
         birth.lay(t.nodes.birth);
+        std::vector<std::uint16_t> stocks = t.nodes.population;
+        if (FFR_FAULT == 25) stocks.resize(std::min(stocks.size(), population.length));
+        population.lay(stocks);
         left.lay(t.edges.left);
         right.lay(t.edges.right);
         parent.lay(t.edges.parent);
@@ -71,6 +78,22 @@ void spoil(reference::Result &r, const Tables &input) {
     if (FFR_FAULT == 4 && !r.map.empty() && r.tables.mutations.node.size() == input.mutations.node.size())
         for (std::size_t i = 0; i < input.mutations.node.size(); ++i)
             r.tables.mutations.node[i] = r.map[input.mutations.node[i]]; // mutations moved by the node map
+    std::vector<std::uint16_t> &stocks = r.tables.nodes.population;
+    if (FFR_FAULT == 26 && !r.map.empty()) std::copy_n(input.nodes.population.begin(), stocks.size(), stocks.begin()); // of another row
+    if (FFR_FAULT == 27)
+        for (std::uint16_t &p : stocks) p &= 255; // the low byte alone
+}
+
+// The tables as a call reads them that takes populations for more or for less than numbers to copy.
+Tables misstocked(Tables t) {
+    if (FFR_FAULT == 28) t.nodes.population.resize(t.nodes.time.size()); // a length not looked at
+    if (FFR_FAULT != 29 || reference::check_tables(FFR_MOST_LENGTH, t).number != 0) return t;
+    ffridwelan::Edges kept;
+    for (std::size_t i = 0; i < t.edges.left.size(); ++i)
+        if (t.nodes.population[t.edges.parent[i]] == t.nodes.population[t.edges.child[i]])
+            kept.add(t.edges.left[i], t.edges.right[i], t.edges.parent[i], t.edges.child[i]);
+    t.edges = kept; // no parent in another stock
+    return t;
 }
 
 std::uint64_t finish(reference::Result &r, const Tables &input, const Outs &outs) {
@@ -147,28 +170,31 @@ void spoil(reference::Panel &p, const Tables &t, const Column &sites, const Colu
 
 // A column as the calls take it, its cells, and a lent column.
 #define IN32(name) const std::uint32_t *name, std::size_t name##_len
+#define IN16(name) const std::uint16_t *name, std::size_t name##_len
 #define IN8(name) const std::uint8_t *name, std::size_t name##_len
 #define OUT32(name) std::uint32_t *name, std::size_t name##_len
+#define OUT16(name) std::uint16_t *name, std::size_t name##_len
 #define OUT8(name) std::uint8_t *name, std::size_t name##_len
 #define CELLS(name) {name, name + name##_len}
 #define LENT(name) {name, name##_len}
 
 // Tables 1 to 4 and the lent columns, by the names that both calls give them.
 #define BASE_TABLES                                                                                                    \
-    {{CELLS(time), CELLS(birth)},                                                                                      \
+    {{CELLS(time), CELLS(birth), CELLS(population)},                                                                   \
      {CELLS(left), CELLS(right), CELLS(parent), CELLS(child)},                                                         \
      {CELLS(position), CELLS(ancestral)},                                                                              \
      {CELLS(site), CELLS(node), CELLS(derived)}}
 #define LENT_TABLES                                                                                                    \
-    {LENT(out_time),  LENT(out_birth),    LENT(out_left),      LENT(out_right), LENT(out_parent), LENT(out_child),     \
-     LENT(out_position), LENT(out_ancestral), LENT(out_site), LENT(out_node), LENT(out_derived), LENT(block)}
+    {LENT(out_time), LENT(out_birth), LENT(out_population), LENT(out_left), LENT(out_right), LENT(out_parent),         \
+     LENT(out_child), LENT(out_position), LENT(out_ancestral), LENT(out_site), LENT(out_node), LENT(out_derived),      \
+     LENT(block)}
 
 extern "C" std::uint64_t ffr_clean(
-    std::uint32_t length, IN32(time), IN32(birth), IN32(left), IN32(right), IN32(parent), IN32(child), IN32(position),
-    IN8(ancestral), IN32(site), IN32(node), IN8(derived), IN32(samples), OUT32(out_time), OUT32(out_birth),
-    OUT32(out_left), OUT32(out_right), OUT32(out_parent), OUT32(out_child), OUT32(out_position), OUT8(out_ancestral),
-    OUT32(out_site), OUT32(out_node), OUT8(out_derived), OUT32(out_map), OUT32(block)) {
-    const Tables input BASE_TABLES;
+    std::uint32_t length, IN32(time), IN32(birth), IN16(population), IN32(left), IN32(right), IN32(parent), IN32(child),
+    IN32(position), IN8(ancestral), IN32(site), IN32(node), IN8(derived), IN32(samples), OUT32(out_time), OUT32(out_birth),
+    OUT16(out_population), OUT32(out_left), OUT32(out_right), OUT32(out_parent), OUT32(out_child), OUT32(out_position),
+    OUT8(out_ancestral), OUT32(out_site), OUT32(out_node), OUT8(out_derived), OUT32(out_map), OUT32(block)) {
+    const Tables input = misstocked(BASE_TABLES);
     const Outs outs LENT_TABLES;
     const Out<std::uint32_t> map LENT(out_map);
     reference::Result r = reference::clean(length, input, CELLS(samples), outs.room(map.length));
@@ -178,25 +204,30 @@ extern "C" std::uint64_t ffr_clean(
 }
 
 extern "C" std::uint64_t ffr_join(
-    std::uint32_t length, IN32(time), IN32(birth), IN32(left), IN32(right), IN32(parent), IN32(child), IN32(position),
-    IN8(ancestral), IN32(site), IN32(node), IN8(derived), IN32(batch_time), IN32(batch_birth), IN32(batch_left),
-    IN32(batch_right), IN32(batch_parent), IN32(batch_child), IN32(batch_site), IN32(batch_node), IN8(batch_derived),
-    OUT32(out_time), OUT32(out_birth), OUT32(out_left), OUT32(out_right), OUT32(out_parent), OUT32(out_child),
-    OUT32(out_position), OUT8(out_ancestral), OUT32(out_site), OUT32(out_node), OUT8(out_derived), OUT32(block)) {
+    std::uint32_t length, IN32(time), IN32(birth), IN16(population), IN32(left), IN32(right), IN32(parent), IN32(child),
+    IN32(position), IN8(ancestral), IN32(site), IN32(node), IN8(derived), IN32(batch_time), IN32(batch_birth),
+    IN16(batch_population), IN32(batch_left), IN32(batch_right), IN32(batch_parent), IN32(batch_child), IN32(batch_site),
+    IN32(batch_node), IN8(batch_derived), OUT32(out_time), OUT32(out_birth), OUT16(out_population), OUT32(out_left),
+    OUT32(out_right), OUT32(out_parent), OUT32(out_child), OUT32(out_position), OUT8(out_ancestral), OUT32(out_site),
+    OUT32(out_node), OUT8(out_derived), OUT32(block)) {
     const Tables input BASE_TABLES;
     const Outs outs LENT_TABLES;
-    reference::Batch batch{{CELLS(batch_time), CELLS(batch_birth)},
+    reference::Batch batch{{CELLS(batch_time), CELLS(batch_birth), CELLS(batch_population)},
                            {CELLS(batch_left), CELLS(batch_right), CELLS(batch_parent), CELLS(batch_child)},
                            {CELLS(batch_site), CELLS(batch_node), CELLS(batch_derived)}};
     if (FFR_FAULT == 8) batch.mutations = {}; // the batch's mutations forgotten
+    if (FFR_FAULT == 30) std::fill(batch.nodes.population.begin(), batch.nodes.population.end(), std::uint16_t{0}); // its populations forgotten
+    if (FFR_FAULT == 31) batch.nodes.population.resize(batch.nodes.time.size());                                    // their length not looked at
     reference::Result r = reference::join(length, input, batch, outs.room(0));
     return finish(r, input, outs);
 }
 
 extern "C" std::uint64_t ffr_alleles(
-    std::uint32_t length, IN32(time), IN32(birth), IN32(left), IN32(right), IN32(parent), IN32(child), IN32(position),
-    IN8(ancestral), IN32(site), IN32(node), IN8(derived), IN32(sites), IN32(fish), OUT8(states), OUT8(missing)) {
-    const Tables input BASE_TABLES;
+    std::uint32_t length, IN32(time), IN32(birth), IN16(population), IN32(left), IN32(right), IN32(parent), IN32(child),
+    IN32(position), IN8(ancestral), IN32(site), IN32(node), IN8(derived), IN32(sites), IN32(fish), OUT8(states),
+    OUT8(missing)) {
+    Tables input BASE_TABLES;
+    if (FFR_FAULT == 32) input.nodes.population.resize(input.nodes.time.size()); // the length of populations not looked at
     const Out<std::uint8_t> first LENT(states), second LENT(missing);
     const Column listed CELLS(sites), births CELLS(fish);
     if (FFR_FAULT == 11 && first.length > 0) first.cells[0] = 0; // a byte written before a refusal

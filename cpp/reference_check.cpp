@@ -70,7 +70,7 @@ Answer fits(const Tables &result, const Room &room) {
 namespace {
 
 Answer shapes(const Tables &t) {
-    if (ragged(t.nodes.time, t.nodes.birth)) return refuse(1, 1);
+    if (ragged(t.nodes.time, t.nodes.birth, t.nodes.population)) return refuse(1, 1);
     if (ragged(t.edges.left, t.edges.right, t.edges.parent, t.edges.child)) return refuse(1, 2);
     if (ragged(t.sites.position, t.sites.ancestral)) return refuse(1, 3);
     if (ragged(t.mutations.site, t.mutations.node, t.mutations.derived)) return refuse(1, 4);

@@ -11,6 +11,7 @@ Result simplify(std::uint32_t length, const Tables &t, const Column &samples) {
     in.len = length;
     in.time = t.nodes.time;
     in.birth = t.nodes.birth;
+    in.population = t.nodes.population;
     in.left = t.edges.left;
     in.right = t.edges.right;
     in.parent = t.edges.parent;
@@ -24,7 +25,7 @@ Result simplify(std::uint32_t length, const Tables &t, const Column &samples) {
     const bench::Result got = bench::AlgorithmS(in).run();
     const bench::Tables &o = got.out;
     Result r;
-    r.tables.nodes = {o.time, o.birth};
+    r.tables.nodes = {o.time, o.birth, o.population};
     r.tables.edges = {o.left, o.right, o.parent, o.child};
     r.tables.sites = {o.position, o.ancestral};
     r.tables.mutations = {o.site, o.node, o.derived};

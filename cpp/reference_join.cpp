@@ -9,7 +9,7 @@ namespace reference {
 namespace {
 
 Answer batch_shapes(const Batch &b) {
-    if (ragged(b.nodes.time, b.nodes.birth)) return refuse(20, 1);
+    if (ragged(b.nodes.time, b.nodes.birth, b.nodes.population)) return refuse(20, 1);
     if (ragged(b.edges.left, b.edges.right, b.edges.parent, b.edges.child)) return refuse(20, 2);
     if (ragged(b.mutations.site, b.mutations.node, b.mutations.derived)) return refuse(20, 4);
     return {};
@@ -89,7 +89,7 @@ Result join(std::uint32_t length, const Tables &t, const Batch &b, const Room &r
     Result r;
     const Row first = static_cast<Row>(t.nodes.time.size());
     r.tables.nodes = t.nodes;
-    for (std::size_t i = 0; i < b.nodes.time.size(); ++i) r.tables.nodes.add(b.nodes.time[i], b.nodes.birth[i]);
+    for (std::size_t i = 0; i < b.nodes.time.size(); ++i) r.tables.nodes.add(b.nodes.time[i], b.nodes.birth[i], b.nodes.population[i]);
     const Births rows = rows_by_birth(r.tables.nodes);
     a = batch_edges(length, r.tables.nodes, rows, first, b);
     if (a.number == 0) a = batch_mutations(t, rows, first, b);

@@ -67,7 +67,7 @@ Result by_position(std::uint32_t length, const Tables &t, const Column &samples)
     r.map.assign(t.nodes.time.size(), FFR_NONE);
     for (std::size_t i = 0; i < output.size(); ++i) {
         r.map[output[i]] = static_cast<Row>(i);
-        r.tables.nodes.add(t.nodes.time[output[i]], t.nodes.birth[output[i]]);
+        r.tables.nodes.add(t.nodes.time[output[i]], t.nodes.birth[output[i]], t.nodes.population[output[i]]);
     }
     for (Row p : order)
         for (const auto &[birth, c] : by_birth) {

@@ -38,7 +38,7 @@ void gives(Suite &s, const char *what, const Record &r, const Column &sites, con
 Record gaps() {
     Record r;
     r.length = 20;
-    r.tables.nodes = {{0, 0, 1, 2, 5, 5}, {1, 2, 3, 4, 5, 6}};
+    r.tables.nodes = {{0, 0, 1, 2, 5, 5}, {1, 2, 3, 4, 5, 6}, {1, 1, 2, 0, 65535, 2}};
     r.tables.edges = {{0, 5, 12, 0}, {10, 12, 16, 8}, {2, 2, 3, 3}, {0, 1, 1, 2}};
     r.tables.sites = {{3, 9, 11, 14, 18}, {'a', 'b', 'c', 'd', 'e'}};
     r.tables.mutations = {{0, 0, 0, 0, 1, 3, 4, 4}, {3, 3, 0, 0, 4, 3, 0, 0}, {'T', 'G', 'C', 'A', 'T', 'G', 'T', 'C'}};
@@ -50,7 +50,7 @@ void known(Suite &s) {
     gives(s, "the listing", r, {0, 1}, {501, 502, 401, 301, 201}, {84, 71, 84, 84, 84, 71, 84, 84, 65, 84});
     gives(s, "repeated and turned", r, {1, 0, 1}, {502, 501, 502}, {84, 84, 84, 71, 84, 71, 84, 84, 84});
     r.tables.sites.ancestral[0] = 0;
-    r.tables.nodes.add(9, 601);
+    r.tables.nodes.add(9, 601, 1);
     gives(s, "the state 0 is not missing", r, {0, 1}, {201, 601}, {0, 84, -1, -1});
     const int M = -1;
     gives(s, "gaps", gaps(), {0, 1, 2, 3, 4}, {1, 2, 3, 4, 5, 6},
@@ -91,6 +91,9 @@ std::vector<Broken> broken_records() {
         all.push_back({number, row, r});
     };
     add(1, 1, [](Record &r) { r.tables.nodes.birth.pop_back(); });
+    add(1, 1, [](Record &r) { r.tables.nodes.population.pop_back(); });
+    add(1, 1, [](Record &r) { r.tables.nodes.population.push_back(0); });
+    add(1, 1, [](Record &r) { r.tables.nodes.population.clear(); });
     add(1, 2, [](Record &r) { r.tables.edges.child.push_back(0); });
     add(1, 3, [](Record &r) { r.tables.sites.ancestral.pop_back(); });
     add(1, 4, [](Record &r) { r.tables.mutations.derived.push_back(1); });
@@ -270,8 +273,8 @@ void shared_memory(Suite &s) {
     const std::size_t n = sites.size() * fish.size();
     States both(2 * n + 1, 0xee);
     const std::uint64_t answer = ffr_alleles(
-        r.length, t.nodes.time.data(), 6, t.nodes.birth.data(), 6, t.edges.left.data(), 4, t.edges.right.data(), 4, t.edges.parent.data(), 4,
-        t.edges.child.data(), 4, t.sites.position.data(), 5, t.sites.ancestral.data(), 5, sites.data(), 8, t.mutations.node.data(), 8,
+        r.length, t.nodes.time.data(), 6, t.nodes.birth.data(), 6, t.nodes.population.data(), 6, t.edges.left.data(), 4, t.edges.right.data(), 4,
+        t.edges.parent.data(), 4, t.edges.child.data(), 4, t.sites.position.data(), 5, t.sites.ancestral.data(), 5, sites.data(), 8, t.mutations.node.data(), 8,
         t.mutations.derived.data(), 8, sites.data(), 8, fish.data(), 6, both.data(), n, both.data() + n, n);
     const reference::Panel due = reference::panel(r.length, t, sites, fish, n, n);
     States want = due.states;

@@ -40,7 +40,7 @@ void random_joins(Suite &s, Random &random, int rounds) {
 Batch generation(Random &random, const Record &r, const Column &parents, std::uint32_t time, std::uint32_t first) {
     Batch b;
     for (std::uint32_t birth = first; birth < first + 5; ++birth) {
-        b.nodes.add(time, birth);
+        b.nodes.add(time, birth, static_cast<std::uint16_t>(random.below(3)));
         const std::uint32_t point = 1 + random.below(r.length - 1);
         b.edges.add(0, point, parents[random.below(parents.size())], birth);
         b.edges.add(point, r.length, parents[random.below(parents.size())], birth);
@@ -55,7 +55,7 @@ void runs(Suite &s, Random &random, int rounds) {
         Record often, once;
         const std::uint32_t generations = 2 + random.below(8);
         often.length = 2 + random.below(30);
-        for (std::uint32_t i = 0; i < 5; ++i) often.tables.nodes.add(generations, i);
+        for (std::uint32_t i = 0; i < 5; ++i) often.tables.nodes.add(generations, i, static_cast<std::uint16_t>(i % 2));
         for (std::uint32_t x = 0; x < often.length; x += 3) often.tables.sites.add(x, 9);
         once = often;
         Column before = often.tables.nodes.birth, living = before; // a fish breeds in two generations
@@ -94,7 +94,11 @@ void wrapper(Suite &s) {
     const auto unknown = ffridwelan::clean(1, {}, {5});
     const auto *refusal = std::get_if<ffridwelan::Refusal>(&unknown);
     s.expect(refusal != nullptr && refusal->words() == "a sample names no node (11, row 0)", "refusal in words");
-    const Record r = listing();
+    Record r = listing();
+    s.expect(!ffridwelan::stored(r.length, r.tables, r.samples).has_value(), "a population is not stored");
+    r.tables.nodes.population = {0, 0, 0, 0, 1};
+    s.expect(!ffridwelan::stored(r.length, r.tables, r.samples).has_value(), "nor that of the last node");
+    r.tables.nodes.population = {0, 0, 0, 0, 0};
     const auto bytes = ffridwelan::stored(r.length, r.tables, r.samples);
     s.expect(bytes.has_value() && bytes->size() == 6 + 2 * 6 + 5 * 10 + 6 * 14 + 2 * 7 + 3 * 7 + 2, "stored form");
 }
@@ -105,7 +109,7 @@ void shared_inputs(Suite &s) {
     const Column numbers{0, 1, 2, 3};
     const Column front{0, 1, 2}, back{1, 2, 3};
     r.length = 9;
-    r.tables.nodes = {front, back};
+    r.tables.nodes = {front, back, {5, 6, 5}};
     r.tables.edges = {{0, 0}, {9, 9}, {1, 2}, {0, 1}};
     r.tables.sites = {back, {7, 8, 9}};
     r.tables.mutations = {front, front, {8, 9, 7}};
@@ -113,15 +117,16 @@ void shared_inputs(Suite &s) {
     const Outputs before(Rooms::limits(), 3);
     Outputs o = before;
     const std::uint32_t *n = numbers.data();
+    const std::uint16_t stocks[] = {5, 6, 5};
     const std::uint8_t states[] = {7, 8, 9, 7};
     const std::uint32_t zeros_and_nines[] = {0, 0, 9, 9};
     const std::uint64_t answer = ffr_clean(
-        9, n, 3, n + 1, 3, zeros_and_nines, 2, zeros_and_nines + 2, 2, n + 1, 2, n, 2, n + 1, 3, states, 3, n, 3, n, 3,
-        states + 1, 3, n + 1, 3, o.time.cells.data(), o.time.room, o.birth.cells.data(), o.birth.room, o.left.cells.data(),
-        o.left.room, o.right.cells.data(), o.right.room, o.parent.cells.data(), o.parent.room, o.child.cells.data(),
-        o.child.room, o.position.cells.data(), o.position.room, o.ancestral.cells.data(), o.ancestral.room,
-        o.site.cells.data(), o.site.room, o.node.cells.data(), o.node.room, o.derived.cells.data(), o.derived.room,
-        o.map.cells.data(), o.map.room, o.block.cells.data(), o.block.room);
+        9, n, 3, n + 1, 3, stocks, 3, zeros_and_nines, 2, zeros_and_nines + 2, 2, n + 1, 2, n, 2, n + 1, 3, states, 3, n, 3,
+        n, 3, states + 1, 3, n + 1, 3, o.time.cells.data(), o.time.room, o.birth.cells.data(), o.birth.room,
+        o.population.cells.data(), o.population.room, o.left.cells.data(), o.left.room, o.right.cells.data(), o.right.room,
+        o.parent.cells.data(), o.parent.room, o.child.cells.data(), o.child.room, o.position.cells.data(), o.position.room,
+        o.ancestral.cells.data(), o.ancestral.room, o.site.cells.data(), o.site.room, o.node.cells.data(), o.node.room,
+        o.derived.cells.data(), o.derived.room, o.map.cells.data(), o.map.room, o.block.cells.data(), o.block.room);
     const reference::Result due = reference::clean(r.length, r.tables, r.samples, Rooms::limits().shortest());
     s.expect(due.answer.number == 0, "shared inputs are sound");
     s.judge("shared inputs", answer, due, o, before);
@@ -214,6 +219,7 @@ int main(int count, char **words) {
     join_limits(s);
     random_joins(s, random, rounds);
     runs(s, random, rounds / 50);
+    stocks(s, random, rounds / 10);
     panels(s, random, rounds);
     if (!kSanitized && rounds >= kEnough) stack(s); // not for the short run under valgrind
     s.report("clean", s.cleanings, answers(Answers::clean));

@@ -80,7 +80,7 @@ Record marked_line(std::uint32_t nodes, std::uint32_t older) {
 // beside. So the younger one comes first, and rule 10 has to go up the whole line.
 Record younger_first(std::uint32_t nodes) {
     Record r = line(nodes - 1);
-    r.tables.nodes.add(nodes, nodes);
+    r.tables.nodes.add(nodes, nodes, stock_of(nodes));
     r.tables.sites.add(0, 'A');
     r.tables.mutations.add(0, 0, 'C');
     r.tables.mutations.add(0, nodes - 1, 'G');
@@ -107,7 +107,7 @@ std::vector<Call> deep_calls() {
     hung.tables.sites.add(0, 'A');
     hung.tables.mutations.add(0, 0, 'C');
     Batch lowest; // a lowest node that the batch brings, with its two mutations: rule 26
-    lowest.nodes.add(0, 5000);
+    lowest.nodes.add(0, 5000, stock_of(5000));
     lowest.edges.add(0, 7, 1, 5000);
     for (char state : {'C', 'G'}) lowest.mutations.add(0, 5000, static_cast<std::uint8_t>(state));
     std::vector<Call> calls;

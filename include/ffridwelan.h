@@ -12,6 +12,10 @@
  * Time counts ticks before the planned end, so it falls towards 0 and cannot fall further. Before a run goes on past its
  * planned end, add one number to every time of the record.
  *
+ * A node has a population number, which stock it came from: any number of 16 bits. Cleaning and joining copy it; it plays no
+ * part in order, in what stands or in any allele. A caller without stocks lends zeros, a cell for each node. (The stored form
+ * has no field for it: reading gives 0, and writing refuses any other, so keep the stocks beside a stored file.)
+ *
  * Columns.  A table is a set of columns, each an array and its length in cells. Rows count from 0.
  * - Every pointer must be aligned for its type and must not be null, also where the length is 0: an
  *   empty column is the address of any cell and length 0. (The wrapper ffridwelan.hpp sees to this.)
@@ -25,21 +29,31 @@
  *   keep their values. (ffr_alleles has two blocks of bytes in place of columns and block; the same holds for them.)
  * - Refused: the number says why and the row says where. No cell changes, those of the blocks included.
  *
- * The room of an output table is its shortest column. The node map needs a cell for each INPUT node row, however few nodes
- * are kept. FFR_MOST_NODES, FFR_MOST_EDGES, FFR_MOST_SITES, FFR_MOST_MUTATIONS and FFR_MOST_MAP cells are enough for every
- * result that is within the limits. Cleaned edges alone can pass theirs, for they can outnumber the input's: then the
- * answer is FFR_NO_ROOM, row FFR_EDGES, whatever the room, and the cure is to list fewer samples.
+ * The room of an output table is its shortest column: that of table 1 is the least of times, birth numbers and populations.
+ * The node map needs a cell for each INPUT node row, however few nodes are kept. FFR_MOST_NODES, FFR_MOST_EDGES,
+ * FFR_MOST_SITES, FFR_MOST_MUTATIONS and FFR_MOST_MAP cells are enough for every result that is within the limits. Cleaned
+ * edges alone can pass theirs, for they can outnumber the input's: then the answer is FFR_NO_ROOM, row FFR_EDGES, whatever
+ * the room, and the cure is to list fewer samples.
  *
  * Any input is taken, broken rows too: no call crashes, and none runs for ever. A call keeps no state,
  * allocates nothing and reads and writes no file, so threads may call at the same time, each with its own outputs.
  * It needs stack: a thread with 220 KiB can make every call that the tests know how to make (the most that one takes is
- * 197,592 bytes for ffr_clean, 145,976 for ffr_join and 109,304 for ffr_alleles).
+ * 197,640 bytes for ffr_clean, 146,072 for ffr_join and 109,336 for ffr_alleles).
  */
 #ifndef FFRIDWELAN_H
 #define FFRIDWELAN_H
 
 #include <stddef.h>
 #include <stdint.h>
+
+/*
+ * The second interface, whose nodes have a population: the symbols have names of their own, so that object files of the first
+ * find no symbol, and its sources have too few arguments.
+ */
+#define FFR_INTERFACE 2
+#define ffr_clean ffr_clean_v2
+#define ffr_join ffr_join_v2
+#define ffr_alleles ffr_alleles_v2
 
 /* The most rows that a table may have, on the way in and on the way out. */
 #define FFR_MOST_NODES 1024u
@@ -121,6 +135,7 @@ uint64_t ffr_clean(
     uint32_t length,                                         /* the chromosome's length */
     const uint32_t *time, size_t time_len,                   /* nodes: ticks before the planned end; larger is older */
     const uint32_t *birth, size_t birth_len,                 /* nodes: birth number, of one chromosome for ever */
+    const uint16_t *population, size_t population_len,       /* nodes: population, any number; zeros where there are no stocks */
     const uint32_t *left, size_t left_len,                   /* edges: first position */
     const uint32_t *right, size_t right_len,                 /* edges: the position after the last */
     const uint32_t *parent, size_t parent_len,               /* edges: node row of the parent */
@@ -133,6 +148,7 @@ uint64_t ffr_clean(
     const uint32_t *samples, size_t samples_len,             /* birth numbers of the chromosomes to keep, two for a diploid fish */
     uint32_t *out_time, size_t out_time_len,                 /* cleaned nodes: time */
     uint32_t *out_birth, size_t out_birth_len,               /* cleaned nodes: birth number */
+    uint16_t *out_population, size_t out_population_len,     /* cleaned nodes: population, that of the input node */
     uint32_t *out_left, size_t out_left_len,                 /* cleaned edges, each as long as it can be, in key order: left */
     uint32_t *out_right, size_t out_right_len,               /* cleaned edges: right */
     uint32_t *out_parent, size_t out_parent_len,             /* cleaned edges: output row of the parent */
@@ -156,6 +172,7 @@ uint64_t ffr_join(
     uint32_t length,                                         /* the chromosome's length */
     const uint32_t *time, size_t time_len,                   /* base nodes: time */
     const uint32_t *birth, size_t birth_len,                 /* base nodes: birth number */
+    const uint16_t *population, size_t population_len,       /* base nodes: population */
     const uint32_t *left, size_t left_len,                   /* base edges: left */
     const uint32_t *right, size_t right_len,                 /* base edges: right */
     const uint32_t *parent, size_t parent_len,               /* base edges: node row of the parent */
@@ -167,6 +184,7 @@ uint64_t ffr_join(
     const uint8_t *derived, size_t derived_len,              /* base mutations: derived state */
     const uint32_t *batch_time, size_t batch_time_len,       /* batch nodes: time */
     const uint32_t *batch_birth, size_t batch_birth_len,     /* batch nodes: birth number */
+    const uint16_t *batch_population, size_t batch_population_len, /* batch nodes: population */
     const uint32_t *batch_left, size_t batch_left_len,       /* batch edges: left */
     const uint32_t *batch_right, size_t batch_right_len,     /* batch edges: right */
     const uint32_t *batch_parent, size_t batch_parent_len,   /* batch edges: birth number of a base or batch node */
@@ -176,6 +194,7 @@ uint64_t ffr_join(
     const uint8_t *batch_derived, size_t batch_derived_len,  /* batch mutations: derived state */
     uint32_t *out_time, size_t out_time_len,                 /* joined nodes: time */
     uint32_t *out_birth, size_t out_birth_len,               /* joined nodes: birth number */
+    uint16_t *out_population, size_t out_population_len,     /* joined nodes: population, as in base or batch */
     uint32_t *out_left, size_t out_left_len,                 /* joined edges: left */
     uint32_t *out_right, size_t out_right_len,               /* joined edges: right */
     uint32_t *out_parent, size_t out_parent_len,             /* joined edges: node row of the parent */
@@ -209,6 +228,7 @@ uint64_t ffr_alleles(
     uint32_t length,                                         /* the chromosome's length */
     const uint32_t *time, size_t time_len,                   /* nodes: time */
     const uint32_t *birth, size_t birth_len,                 /* nodes: birth number */
+    const uint16_t *population, size_t population_len,       /* nodes: population, of which only the length is looked at */
     const uint32_t *left, size_t left_len,                   /* edges: left */
     const uint32_t *right, size_t right_len,                 /* edges: right */
     const uint32_t *parent, size_t parent_len,               /* edges: node row of the parent */

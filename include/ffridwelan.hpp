@@ -17,16 +17,23 @@
 
 namespace ffridwelan {
 
+// In the names that the linker sees, so that old and new objects of one program do not share a function over different tables.
+inline namespace interface2 {
+
 using Column = std::vector<std::uint32_t>;
 using States = std::vector<std::uint8_t>;
+using Populations = std::vector<std::uint16_t>;
 
 // Table 1, a row for each chromosome. Time is in ticks before the planned end: larger is older. A birth number is never given twice.
+// The population says which stock it came from and is only copied; a run without stocks gives 0 to each node.
 struct Nodes {
     Column time, birth;
+    Populations population;
 
-    void add(std::uint32_t t, std::uint32_t b) {
+    void add(std::uint32_t t, std::uint32_t b, std::uint16_t p) {
         time.push_back(t);
         birth.push_back(b);
+        population.push_back(p);
     }
 };
 
@@ -80,7 +87,9 @@ struct Batch {
     Mutations mutations;
 };
 
-inline bool operator==(const Nodes &a, const Nodes &b) { return a.time == b.time && a.birth == b.birth; }
+inline bool operator==(const Nodes &a, const Nodes &b) {
+    return a.time == b.time && a.birth == b.birth && a.population == b.population;
+}
 inline bool operator==(const Edges &a, const Edges &b) {
     return a.left == b.left && a.right == b.right && a.parent == b.parent && a.child == b.child;
 }
@@ -132,6 +141,7 @@ template <class T> const T *cells(const std::vector<T> &column) {
 inline Tables room() {
     Tables t;
     for (Column *c : {&t.nodes.time, &t.nodes.birth}) c->resize(FFR_MOST_NODES);
+    t.nodes.population.resize(FFR_MOST_NODES);
     for (Column *c : {&t.edges.left, &t.edges.right, &t.edges.parent, &t.edges.child}) c->resize(FFR_MOST_EDGES);
     t.sites.position.resize(FFR_MOST_SITES);
     t.sites.ancestral.resize(FFR_MOST_SITES);
@@ -145,6 +155,7 @@ using Block = std::array<std::uint32_t, FFR_BLOCK_CELLS>;
 // The rows written and no others.
 inline void trim(Tables &t, const Block &rows) {
     for (Column *c : {&t.nodes.time, &t.nodes.birth}) c->resize(rows[0]);
+    t.nodes.population.resize(rows[0]);
     for (Column *c : {&t.edges.left, &t.edges.right, &t.edges.parent, &t.edges.child}) c->resize(rows[1]);
     t.sites.position.resize(rows[2]);
     t.sites.ancestral.resize(rows[2]);
@@ -177,13 +188,13 @@ inline std::variant<Cleaned, Refusal> clean(std::uint32_t length, const Tables &
     Tables &o = result.tables;
     detail::Block rows{};
     const std::uint64_t answer = ffr_clean(
-        length, FFR_READ(t.nodes.time), FFR_READ(t.nodes.birth), FFR_READ(t.edges.left), FFR_READ(t.edges.right),
-        FFR_READ(t.edges.parent), FFR_READ(t.edges.child), FFR_READ(t.sites.position), FFR_READ(t.sites.ancestral),
-        FFR_READ(t.mutations.site), FFR_READ(t.mutations.node), FFR_READ(t.mutations.derived), FFR_READ(samples),
-        FFR_WRITE(o.nodes.time), FFR_WRITE(o.nodes.birth), FFR_WRITE(o.edges.left), FFR_WRITE(o.edges.right),
-        FFR_WRITE(o.edges.parent), FFR_WRITE(o.edges.child), FFR_WRITE(o.sites.position),
-        FFR_WRITE(o.sites.ancestral), FFR_WRITE(o.mutations.site), FFR_WRITE(o.mutations.node),
-        FFR_WRITE(o.mutations.derived), FFR_WRITE(result.map), FFR_WRITE(rows));
+        length, FFR_READ(t.nodes.time), FFR_READ(t.nodes.birth), FFR_READ(t.nodes.population), FFR_READ(t.edges.left),
+        FFR_READ(t.edges.right), FFR_READ(t.edges.parent), FFR_READ(t.edges.child), FFR_READ(t.sites.position),
+        FFR_READ(t.sites.ancestral), FFR_READ(t.mutations.site), FFR_READ(t.mutations.node), FFR_READ(t.mutations.derived),
+        FFR_READ(samples), FFR_WRITE(o.nodes.time), FFR_WRITE(o.nodes.birth), FFR_WRITE(o.nodes.population),
+        FFR_WRITE(o.edges.left), FFR_WRITE(o.edges.right), FFR_WRITE(o.edges.parent), FFR_WRITE(o.edges.child),
+        FFR_WRITE(o.sites.position), FFR_WRITE(o.sites.ancestral), FFR_WRITE(o.mutations.site),
+        FFR_WRITE(o.mutations.node), FFR_WRITE(o.mutations.derived), FFR_WRITE(result.map), FFR_WRITE(rows));
     if (answer != 0) return detail::refusal(answer);
     detail::trim(o, rows);
     result.map.resize(t.nodes.time.size());
@@ -195,15 +206,15 @@ inline std::variant<Tables, Refusal> join(std::uint32_t length, const Tables &t,
     Tables o = detail::room();
     detail::Block rows{};
     const std::uint64_t answer = ffr_join(
-        length, FFR_READ(t.nodes.time), FFR_READ(t.nodes.birth), FFR_READ(t.edges.left), FFR_READ(t.edges.right),
-        FFR_READ(t.edges.parent), FFR_READ(t.edges.child), FFR_READ(t.sites.position), FFR_READ(t.sites.ancestral),
-        FFR_READ(t.mutations.site), FFR_READ(t.mutations.node), FFR_READ(t.mutations.derived),
-        FFR_READ(b.nodes.time), FFR_READ(b.nodes.birth), FFR_READ(b.edges.left), FFR_READ(b.edges.right),
-        FFR_READ(b.edges.parent), FFR_READ(b.edges.child), FFR_READ(b.mutations.site), FFR_READ(b.mutations.node),
-        FFR_READ(b.mutations.derived), FFR_WRITE(o.nodes.time), FFR_WRITE(o.nodes.birth), FFR_WRITE(o.edges.left),
-        FFR_WRITE(o.edges.right), FFR_WRITE(o.edges.parent), FFR_WRITE(o.edges.child), FFR_WRITE(o.sites.position),
-        FFR_WRITE(o.sites.ancestral), FFR_WRITE(o.mutations.site), FFR_WRITE(o.mutations.node),
-        FFR_WRITE(o.mutations.derived), FFR_WRITE(rows));
+        length, FFR_READ(t.nodes.time), FFR_READ(t.nodes.birth), FFR_READ(t.nodes.population), FFR_READ(t.edges.left),
+        FFR_READ(t.edges.right), FFR_READ(t.edges.parent), FFR_READ(t.edges.child), FFR_READ(t.sites.position),
+        FFR_READ(t.sites.ancestral), FFR_READ(t.mutations.site), FFR_READ(t.mutations.node), FFR_READ(t.mutations.derived),
+        FFR_READ(b.nodes.time), FFR_READ(b.nodes.birth), FFR_READ(b.nodes.population), FFR_READ(b.edges.left),
+        FFR_READ(b.edges.right), FFR_READ(b.edges.parent), FFR_READ(b.edges.child), FFR_READ(b.mutations.site),
+        FFR_READ(b.mutations.node), FFR_READ(b.mutations.derived), FFR_WRITE(o.nodes.time), FFR_WRITE(o.nodes.birth),
+        FFR_WRITE(o.nodes.population), FFR_WRITE(o.edges.left), FFR_WRITE(o.edges.right), FFR_WRITE(o.edges.parent),
+        FFR_WRITE(o.edges.child), FFR_WRITE(o.sites.position), FFR_WRITE(o.sites.ancestral), FFR_WRITE(o.mutations.site),
+        FFR_WRITE(o.mutations.node), FFR_WRITE(o.mutations.derived), FFR_WRITE(rows));
     if (answer != 0) return detail::refusal(answer);
     detail::trim(o, rows);
     return o;
@@ -220,10 +231,10 @@ inline std::variant<Panel, Refusal> alleles(std::uint32_t length, const Tables &
     const std::size_t cells = countable ? fish.size() * sites.size() : 0;
     for (States *block : {&panel.states, &panel.missing}) block->resize(std::max<std::size_t>(cells, 1)); // one at least: no null pointer
     const std::uint64_t answer = ffr_alleles(
-        length, FFR_READ(t.nodes.time), FFR_READ(t.nodes.birth), FFR_READ(t.edges.left), FFR_READ(t.edges.right),
-        FFR_READ(t.edges.parent), FFR_READ(t.edges.child), FFR_READ(t.sites.position), FFR_READ(t.sites.ancestral),
-        FFR_READ(t.mutations.site), FFR_READ(t.mutations.node), FFR_READ(t.mutations.derived), FFR_READ(sites),
-        FFR_READ(fish), panel.states.data(), cells, panel.missing.data(), cells);
+        length, FFR_READ(t.nodes.time), FFR_READ(t.nodes.birth), FFR_READ(t.nodes.population), FFR_READ(t.edges.left),
+        FFR_READ(t.edges.right), FFR_READ(t.edges.parent), FFR_READ(t.edges.child), FFR_READ(t.sites.position),
+        FFR_READ(t.sites.ancestral), FFR_READ(t.mutations.site), FFR_READ(t.mutations.node), FFR_READ(t.mutations.derived),
+        FFR_READ(sites), FFR_READ(fish), panel.states.data(), cells, panel.missing.data(), cells);
     if (answer != 0) return detail::refusal(answer);
     for (States *block : {&panel.states, &panel.missing}) block->resize(cells);
     return panel;
@@ -232,7 +243,8 @@ inline std::variant<Panel, Refusal> alleles(std::uint32_t length, const Tables &
 #undef FFR_READ
 #undef FFR_WRITE
 
-// The stored form of a record and its samples, which the program ffridwelan reads; nothing where a row named is above 65,535.
+// The stored form of a record and its samples, which the program ffridwelan reads; nothing where a row named is above 65,535, or
+// where a population is not 0, since the form has no field for it: keep the stocks elsewhere and set them to 0 first.
 // This writer is plain C++ for convenience and is not the proved one. It expects columns of equal length.
 inline std::optional<std::vector<std::uint8_t>> stored(std::uint32_t length, const Tables &t, const Column &samples) {
     std::vector<std::uint8_t> bytes;
@@ -243,6 +255,8 @@ inline std::optional<std::vector<std::uint8_t>> stored(std::uint32_t length, con
         detail::mark(bytes, "SA");
         detail::put(bytes, birth, 4);
     }
+    for (std::uint16_t population : t.nodes.population)
+        if (population != 0) return std::nullopt;
     for (std::size_t i = 0; i < t.nodes.time.size(); ++i) {
         detail::mark(bytes, "ND");
         detail::put(bytes, t.nodes.time[i], 4);
@@ -271,6 +285,8 @@ inline std::optional<std::vector<std::uint8_t>> stored(std::uint32_t length, con
     detail::mark(bytes, "EN");
     return bytes;
 }
+
+} // namespace interface2
 
 } // namespace ffridwelan
 

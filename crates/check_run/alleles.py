@@ -4,6 +4,7 @@ every answer.
 usage: python3 alleles.py     (in this folder; the seeds are fixed, and what stands above the groups stays as it is)
 
 A fish is missing at a site where no edge over the position names it and no mutation of the site is on it; 256, which is no byte, says so.
+The populations are drawn by themselves and play no part in an answer.
 """
 import pathlib
 import random
@@ -54,17 +55,18 @@ def allele(edges, sites, mutations, site, node):
         node = up[0]
 
 
-def put(length, nodes, edges, sites, mutations):
+def put(stocks, length, nodes, edges, sites, mutations):
     """The lines that give the tables."""
     yield f"S 12 12 {length}"
+    yield " ".join(map(str, ["R", 13, *(stocks.choice((0, 65535, stocks.randrange(65536))) for _ in nodes)]))
     columns = [[r[k] for r in rows] for rows, width in ((nodes, 2), (edges, 4), (sites, 2), (mutations, 3)) for k in range(width)]
     for number, column in enumerate(columns):
         yield " ".join(map(str, ["R", number, *column]))
 
 
-def lines(rng):
+def lines(rng, stocks):
     length, nodes, edges, sites, mutations = tables(rng)
-    yield from put(length, nodes, edges, sites, mutations)
+    yield from put(stocks, length, nodes, edges, sites, mutations)
     yield "R 11"
     for site in range(len(sites)):
         for node in range(len(nodes)):
@@ -93,9 +95,9 @@ def panel(rng, nodes, edges, sites, mutations):
     return [rows, fish, room, 0, 0, [allele(edges, sites, mutations, row, births.index(birth)) for birth in fish for row in rows]]
 
 
-def panel_lines(rng):
+def panel_lines(rng, stocks):
     length, nodes, edges, sites, mutations = tables(rng)
-    yield from put(length, nodes, edges, sites, mutations)
+    yield from put(stocks, length, nodes, edges, sites, mutations)
     for _ in range(EACH):
         rows, fish, room, number, row, cells = panel(rng, nodes, edges, sites, mutations)
         yield " ".join(map(str, ["P", len(rows), len(fish), *room, number, row, len(cells), *rows, *fish, *cells]))
@@ -108,8 +110,8 @@ def main():
         text = text[: text.index(HEAD)]
     text = text.rstrip("\n") + "\n"
     for head, made, seed in ((HEAD, lines, 103), (PANELS, panel_lines, 100)):
-        rng = random.Random(seed)
-        text += "\n" + head + "".join(line + "\n" for _ in range(TABLES) for line in made(rng))
+        rng, stocks = random.Random(seed), random.Random(106)
+        text += "\n" + head + "".join(line + "\n" for _ in range(TABLES) for line in made(rng, stocks))
     path.write_text(text)
 
 

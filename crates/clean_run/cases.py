@@ -5,10 +5,11 @@
 
 A case is four little-endian words (kind: 0 ends a group and holds its name; the bytes that follow; where the numbers start in
 them; how many numbers) and the bytes: the states of the input, then the numbers, each one byte below 254, or 254 and two bytes,
-or 255 and four. The numbers: L; number, row and four counts of the answer due; the lent length of each of the twelve output
-columns; start and length of the twelve input columns and of the twelve columns due; then the columns.
+or 255 and four. The numbers: L; number, row and four counts of the answer due; the lent length of each of the thirteen output
+columns; start and length of the thirteen input columns and of the thirteen columns due; then the columns.
 
-The program can tell: with a fault planted in the second cleaner it reported differences, in 3,455 cases (and 627 of show_run):
+The program can tell. Tried before there were populations, with a fault planted in the second cleaner it reported differences, in 3,455
+cases (and 627 of show_run):
 a sample with a single child dropped 1,194 (156); touching edges not merged 811 (122); a sample's segment not the whole
 chromosome 455 (63); room taken from one column only 134 (0); a mutation moved by the node map 90 (11); rule 7 forgotten 23 (4);
 ties ordered by row 18 (0). With the last row of the node map left out of what is due it reported 2,264 (every case that is done and has a
@@ -20,10 +21,10 @@ import sys
 
 sys.dont_write_bytecode = True
 import histories
-from histories import copied, tables
+from histories import STOCKS, copied, tables
 from second import LONGEST, NONE, TABLES, answer
 
-ROOM = [1024] * 2 + [4096] * 4 + [512] * 2 + [1024] * 4
+ROOM = [1024] * 2 + [4096] * 4 + [512] * 2 + [1024] * 5
 
 
 def packed(v):
@@ -44,10 +45,10 @@ def case(length, columns, lent=None, due=None):
             places += [len(states), len(column)]
             states += bytes(column)
         else:
-            places += [67 + len(cells), len(column)]
+            places += [72 + len(cells), len(column)]
             cells += column
     for column in out:
-        places += [67 + len(cells), len(column)]
+        places += [72 + len(cells), len(column)]
         cells += column
     numbers = [length, number, row] + counts + lent + places + cells
     body = states + b''.join(map(packed, numbers))
@@ -55,13 +56,13 @@ def case(length, columns, lent=None, due=None):
     return struct.pack('<4I', 1, len(body), len(states), len(numbers)) + body
 
 
-NODES = [(0, 501), (0, 502), (1, 401), (2, 301), (3, 201)]
+NODES = [(0, 501, 7), (0, 502, 0), (1, 401, 65535), (2, 301, 7), (3, 201, 40000)]
 EDGES = [(0, 10, 2, 0), (4, 6, 2, 1), (0, 10, 3, 2), (0, 4, 3, 1), (6, 10, 3, 1), (0, 10, 4, 3)]
 LISTING = tables(NODES, EDGES, [(5, 65), (8, 67)], [(0, 3, 84), (1, 4, 84), (1, 2, 71)], [501, 502])
 # what 01 prints of it
-LISTED = tables([(0, 501), (0, 502), (1, 401), (2, 301)],
+LISTED = tables([(0, 501, 7), (0, 502, 0), (1, 401, 65535), (2, 301, 7)],
                 [(4, 6, 2, 0), (4, 6, 2, 1), (0, 4, 3, 0), (6, 10, 3, 0), (0, 4, 3, 1), (6, 10, 3, 1)],
-                [(5, 65), (8, 67)], [(0, 2, 84), (1, 3, 84), (1, 0, 71)])[:11] + [[0, 1, 2, 3, NONE]]
+                [(5, 65), (8, 67)], [(0, 2, 84), (1, 3, 84), (1, 0, 71)])[:12] + [[0, 1, 2, 3, NONE]]
 
 
 def changed(columns, *edits):
@@ -78,14 +79,14 @@ def changed(columns, *edits):
 def by_hand():
     """P1 to P9."""
     yield case(10, LISTING, due=(0, 0, LISTED))
-    two = answer(10, changed(LISTING, (11, None, [501, 401])), ROOM)[3]
+    two = answer(10, changed(LISTING, (12, None, [501, 401])), ROOM)[3]
     assert [two[k] for k in (2, 3, 4, 5)] == [[0], [10], [1], [0]]
-    yield case(10, changed(LISTING, (11, None, [501, 401])), due=(0, 0))
-    none = answer(10, changed(LISTING, (11, None, [])), ROOM)
+    yield case(10, changed(LISTING, (12, None, [501, 401])), due=(0, 0))
+    none = answer(10, changed(LISTING, (12, None, [])), ROOM)
     assert none[:3] == (0, 0, [0, 0, 2, 0])
-    yield case(10, changed(LISTING, (11, None, [])), due=(0, 0))
-    yield case(10, changed(LISTING, (11, None, [501, 501])), due=(12, 1))
-    yield case(10, changed(LISTING, (11, None, [999])), due=(11, 0))
+    yield case(10, changed(LISTING, (12, None, [])), due=(0, 0))
+    yield case(10, changed(LISTING, (12, None, [501, 501])), due=(12, 1))
+    yield case(10, changed(LISTING, (12, None, [999])), due=(11, 0))
     yield case(10, changed(LISTING, (3, 5, 11)), due=(5, 5))
     yield case(10, changed(LISTING, (0, 4, 2)), due=(5, 5))
     yield case(0, changed(LISTING, (1, 1, 501)), due=(3, 0))
@@ -114,9 +115,9 @@ def limits():
 def third():
     """Demand 3's premise: 401 had to be listed."""
     second = [401, 501]
-    first = answer(10, changed(LISTING, (11, None, [501, 502])), ROOM)[3]
-    after = changed(first[:11] + [second])
-    for columns, edge in ((after, (4, 6)), (changed(LISTING, (11, None, second)), (0, 10))):
+    first = answer(10, changed(LISTING, (12, None, [501, 502])), ROOM)[3]
+    after = changed(first[:12] + [second])
+    for columns, edge in ((after, (4, 6)), (changed(LISTING, (12, None, second)), (0, 10))):
         out = answer(10, columns, ROOM)[3]
         assert (out[2], out[3]) == ([edge[0]], [edge[1]])
         yield case(10, columns, due=(0, 0))
@@ -137,16 +138,16 @@ def touching():
 def rooms():
     """Every output column one short, exactly fitting and one longer; two short at once; cleaned edges past their limit."""
     fits = [len(c) for c in answer(10, LISTING, ROOM)[3]]
-    table = [next((t + 1 for t, cs in enumerate(TABLES[:4]) if k in cs), 6) for k in range(12)]
+    table = [next((t + 1 for t, cs in enumerate(TABLES[:4]) if k in cs), 6) for k in range(13)]
     yield case(10, LISTING, fits, (0, 0))
     yield case(10, LISTING, [n + 1 for n in fits], (0, 0))
-    yield case(10, LISTING, [0] * 12, (13, 1))
-    for k in range(12):
+    yield case(10, LISTING, [0] * 13, (13, 1))
+    for k in range(13):
         yield case(10, LISTING, [n - (j == k) for j, n in enumerate(fits)], (13, table[k]))
         yield case(10, LISTING, [n if j == k else n + 1 for j, n in enumerate(fits)], (0, 0))
         yield case(10, LISTING, [0 if j == k else n for j, n in enumerate(ROOM)], (13, table[k]))
         for i in range(k):
-            yield case(10, LISTING, [n - (j in (i, k)) for j, n in enumerate(fits)], (13, table[i]))
+            yield case(10, LISTING, [n - (j in (i, k)) for j, n in enumerate(fits)], (13, min(table[i], table[k])))
     more = [n + 1 for n in ROOM]
     for history, due in ((histories.ladder(1023, 4), (0, 0)), (histories.ladder(1023, 5), (13, 2)),
                          (histories.ladder(2000, 1), (13, 2))):
@@ -174,8 +175,10 @@ def any_room(rng, length, columns):
     fits = [len(c) for c in answer(length, columns, ROOM)[3]]
     lent = [n + rng.choice([0, 0, 1, 5]) for n in fits]
     if rng.random() < 0.1:
-        k = rng.randrange(12)
+        k = rng.choice(histories.OTHERS)
         lent[k] = max(fits[k] - 1, 0)
+    if STOCKS.random() < 0.02:
+        lent[11] = max(fits[11] - 1, 0)
     return lent
 
 

@@ -1,13 +1,41 @@
 """Histories for the cases of clean_run: random small ones, damaged ones, and large ones at or near the limits."""
+import random
+
 from second import LONGEST, MOST, NONE, TABLES, parents_at, too_old
+
+# Populations, and what is done to their columns, are drawn by themselves: the rest of a history does not depend on them.
+STOCKS = random.Random(106)
+OTHERS = [k for k in range(13) if k != 11]
+
+
+def stocks(n):
+    """So many random populations, 0 and 65535 among them."""
+    return [STOCKS.choice((0, 65535, STOCKS.randrange(65536), STOCKS.randrange(9))) for _ in range(n)]
+
+
+def stock(row):
+    """The population that a row of nodes gives, or one that goes by the birth number, so that a fish has the same in every table."""
+    return row[2] if len(row) > 2 else (row[1] * 40503 % 65536, 65535, row[1] % 7, 0)[row[1] * 2654435761 // 65536 % 4]
+
+
+def spoil(column):
+    """At times a cell too few or too many in a column of populations, or another one."""
+    way = STOCKS.randrange(40)
+    if way == 0:
+        column.append(STOCKS.randrange(65536))
+    elif column and way == 1:
+        column.pop()
+    elif column and way < 6:
+        column[STOCKS.randrange(len(column))] = STOCKS.randrange(65536)
 
 
 def tables(nodes, edges, sites=(), mutations=(), samples=()):
-    """Twelve columns of rows; the edges are put into key order."""
+    """Thirteen columns of rows; the edges are put into key order. A row of nodes is time, birth and, where it matters, population."""
     def key(e):
         return nodes[e[2]][0], nodes[e[2]][1], nodes[e[3]][1], e[0]
     rows = [(list(nodes), 2), (sorted(edges, key=key), 4), (list(sites), 2), (list(mutations), 3)]
-    return [[r[k] for r in table] for table, width in rows for k in range(width)] + [list(samples)]
+    columns = [[r[k] for r in table] for table, width in rows for k in range(width)]
+    return columns + [list(map(stock, nodes)), list(samples)]
 
 
 def copied(columns):
@@ -51,15 +79,15 @@ def small(rng):
     mutated(rng, columns, lambda: rng.choice([0, 1, 2, 4]))
     listed = [b for _, b in nodes]
     rng.shuffle(listed)
-    columns[11] = listed[:rng.choice([0, 1, 2, 2, 3, 3, 4, 6, n])]
+    columns[11:] = [stocks(n), listed[:rng.choice([0, 1, 2, 2, 3, 3, 4, 6, n])]]
     return length, columns
 
 
 def damaged(rng, length, columns):
-    """One to three random changes: a cell, a row exchanged with another, a row twice, a cell too few or too many, L."""
+    """One to three random changes: a cell, a row exchanged with another, a row twice, a cell too few or too many, L; and the populations."""
     columns = copied(columns)
     for _ in range(rng.choice([1, 1, 2, 3])):
-        k = rng.randrange(12)
+        k = rng.choice(OTHERS)
         column, way = columns[k], rng.randrange(24)
         i = rng.randrange(len(column)) if column else None
         if way == 0:
@@ -80,6 +108,7 @@ def damaged(rng, length, columns):
             column[i] = rng.randrange(256)
         elif column:
             column[i] = rng.choice([column[i] + 1, max(column[i] - 1, 0), rng.randrange(13), NONE, length]) % (NONE + 1)
+    spoil(columns[11])
     return length, columns
 
 
@@ -95,7 +124,7 @@ def breeding(rng, generations, size, cuts, length, sites=512, mutations=1024, li
     columns = tables(nodes, edges, [(x, 65) for x in sorted(rng.sample(range(length), sites))])
     per = [mutations // max(sites, 1)] * sites
     mutated(rng, columns, lambda: per.pop(), 4)
-    columns[11] = [nodes[u][1] for u in rng.sample(range(len(nodes) - 300, len(nodes)), listed)]
+    columns[11:] = [stocks(len(nodes)), [nodes[u][1] for u in rng.sample(range(len(nodes) - 300, len(nodes)), listed)]]
     return length, columns
 
 

@@ -33,20 +33,22 @@ def lengths(case):
             for cells in (base[k][:-1], base[k] + base[k][:1]):
                 yield case(10, base[:k] + [cells] + base[k + 1:], due=(1, t + 1))
     ragged = copied(base)
-    for k in (10, 6, 3, 0):
+    for k in (10, 6, 3, 11, 0):
         ragged[k] = []
         yield case(0, ragged, due=(1, 1 + next(t for t, table in enumerate(TABLES) if k in table)))
     for length in (0, LONGEST + 1, 2 * LONGEST, NONE):
         yield case(length, base, due=(3, 0))
 
 
+def sized(sizes):
+    """Columns of zeros, each as long as its table."""
+    return [[0] * next(n for n, table in zip(sizes, TABLES) if k in table) for k in range(13)]
+
+
 def too_many(case):
     for t, most in enumerate(MOST):
-        sizes = [most + 1 if u == t else 0 for u in range(5)]
-        columns = [[0] * sizes[u] for u, table in enumerate(TABLES) for _ in table]
-        yield case(10, columns, due=(2, t + 1))
-        columns = [[0] * (MOST[u] + 1 if u >= t else 0) for u, table in enumerate(TABLES) for _ in table]
-        yield case(0, columns, due=(2, t + 1))
+        yield case(10, sized([most + 1 if u == t else 0 for u in range(5)]), due=(2, t + 1))
+        yield case(0, sized([MOST[u] + 1 if u >= t else 0 for u in range(5)]), due=(2, t + 1))
 
 
 def nodes(case):
@@ -104,17 +106,17 @@ def mutations(case):
     for i, u in ((0, 1), (1, 2), (512, 3), (1023, 1)):
         yield case(99, changed(base, (9, i, u)), due=(0, 0))
     # on nodes that no sample is below, too
-    yield case(99, changed(base[:11] + [[4]], (9, 1, 1)), due=(10, 1))
+    yield case(99, changed(base[:12] + [[4]], (9, 1, 1)), due=(10, 1))
 
 
 def samples(case):
     base = tables([(k, 9 * k) for k in range(256)], [], [], [], range(0, 9 * 256, 9))
     yield case(10, base, due=(0, 0))
     for i in (0, 255):
-        yield case(10, changed(base, (11, i, 1)), due=(11, i))
+        yield case(10, changed(base, (12, i, 1)), due=(11, i))
     for i, j in ((1, 0), (255, 254), (255, 0)):
-        yield case(10, changed(base, (11, i, 9 * j)), due=(12, i))
-    yield case(10, changed(base, (11, 1, 0), (11, 255, 1)), due=(11, 255))
+        yield case(10, changed(base, (12, i, 9 * j)), due=(12, i))
+    yield case(10, changed(base, (12, 1, 0), (12, 255, 1)), due=(11, 255))
 
 
 def cases(case):

@@ -3,13 +3,14 @@
 The cleaner is 000's Algorithm S: ancestral segments of each node, youngest node first. A sample's segment is the whole
 chromosome under its own name, so that a sample above a sample gets its edge and hides the lower one from what is above.
 
-Tables are a list of twelve columns: time, birth, left, right, parent, child, position, ancestral, site, node, derived, samples.
+Tables are a list of thirteen columns: time, birth, left, right, parent, child, position, ancestral, site, node, derived, population,
+samples.
 """
 import bisect
 import heapq
 
 MOST = [1024, 4096, 512, 1024, 256]
-TABLES = [[0, 1], [2, 3, 4, 5], [6, 7], [8, 9, 10], [11]]
+TABLES = [[0, 1, 11], [2, 3, 4, 5], [6, 7], [8, 9, 10], [12]]
 LONGEST = 1073741824
 NONE = 4294967295
 
@@ -33,7 +34,7 @@ def too_old(parents, nodes):
 
 def check(length, columns):
     """01's number and row, 1 to 12; (0, 0) where there is no refusal."""
-    time, birth, left, right, parent, child, position, ancestral, site, node, derived, samples = columns
+    time, birth, left, right, parent, child, position, ancestral, site, node, derived, population, samples = columns
     for t, table in enumerate(TABLES):
         if len({len(columns[c]) for c in table}) > 1:
             return 1, t + 1
@@ -115,8 +116,8 @@ def segments(length, time, edges, sampled):
 
 
 def clean(length, columns):
-    """The twelve result columns, the node map last, of tables that pass the check."""
-    time, birth, left, right, parent, child, position, ancestral, site, node, derived, samples = columns
+    """The thirteen result columns, the node map last, of tables that pass the check."""
+    time, birth, left, right, parent, child, position, ancestral, site, node, derived, population, samples = columns
     named = {b: i for i, b in enumerate(birth)}
     listed = [named[b] for b in samples]
     lines, found = segments(length, time, zip(left, right, parent, child), set(listed))
@@ -136,12 +137,12 @@ def clean(length, columns):
     out += [[e[0] for e in edges], [e[1] for e in edges], [row[e[2]] for e in edges], [row[e[3]] for e in edges]]
     out += [list(position), list(ancestral)]
     out += [[m[k] for m in moved] for k in range(3)]
-    return out + [[row.get(u, NONE) for u in range(len(time))]]
+    return out + [[population[u] for u in kept], [row.get(u, NONE) for u in range(len(time))]]
 
 
 def answer(length, columns, lent):
     """Number, row, the four counts and the result columns (none after a refusal), for output columns of the lent lengths."""
-    nothing = [0] * 4, [[] for _ in range(12)]
+    nothing = [0] * 4, [[] for _ in range(13)]
     number, row = check(length, columns)
     if number:
         return (number, row) + nothing

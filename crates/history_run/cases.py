@@ -4,9 +4,9 @@ the second cleaner (clean_run/second.py) come to where only the end is cleaned.
 
     python3 crates/history_run/cases.py > crates/history_run/stdin
 
-A history is a case as in join_run; its numbers: L; how many steps; start and length of the eleven columns of the start record and of
-the eleven due; for each step twenty cells, its kind (1 join, 2 clean, 3 the last cleaning) and start and length of its columns (nine of
-a batch, one of a list); then the columns. The program runs it twice, with every cleaning and with only the last.
+A history is a case as in join_run; its numbers: L; how many steps; start and length of the twelve columns of the start record and of
+the twelve due; for each step 21 cells, its kind (1 join, 2 clean, 3 the last cleaning) and start and length of its columns (ten of a
+batch, one of a list); then the columns. The program runs it twice, with every cleaning and with only the last.
 
 It must be able to fail, and does: in the second group every cleaning leaves out one fish that is named later, so demand 3's premise is
 broken. Of these 40 histories 18 ended in a join refused with 23 (the parent was no longer in the record), 2 in a last cleaning refused
@@ -20,7 +20,7 @@ sys.path.insert(0, os.path.join(os.path.dirname(os.path.abspath(__file__)), '..'
 sys.dont_write_bytecode = True
 from joining import check_batch, join
 from frames import batch_of, ended, framed, placed
-from histories import tables
+from histories import stocks, tables
 from second import LONGEST, MOST, check, clean
 
 JOIN, CLEAN, LAST = 1, 2, 3
@@ -28,16 +28,16 @@ JOIN, CLEAN, LAST = 1, 2, 3
 
 def case(length, start, steps, due):
     """A history's bytes."""
-    states, cells, first = bytearray(), [], 46 + 20 * len(steps)
+    states, cells, first = bytearray(), [], 50 + 21 * len(steps)
     numbers = placed(start, (7, 10), first, states, cells) + placed(due, (7, 10), first, states, cells)
     for kind, columns in steps:
         places = placed(columns, (8,), first, states, cells)
-        numbers += [kind] + places + [0] * (19 - len(places))
+        numbers += [kind] + places + [0] * (20 - len(places))
     return framed(bytes(states), [length, len(steps)] + numbers + cells)
 
 
 def run(length, start, steps, every):
-    """The eleven columns at the end, or nothing where a step is refused."""
+    """The twelve columns at the end, or nothing where a step is refused."""
     record = start
     for kind, columns in steps:
         if kind == JOIN:
@@ -47,7 +47,7 @@ def run(length, start, steps, every):
         elif every or kind == LAST:
             if check(length, record + columns) != (0, 0):
                 return None
-            record = clean(length, record + columns)[:11]
+            record = clean(length, record + columns)[:12]
         assert all(len(record[k]) <= MOST[t] for t, k in enumerate((0, 2, 6, 8)))
     return record
 
@@ -73,7 +73,9 @@ def born(rng, length, time, births, olds, sites):
     shuffled = list(nodes)
     rng.shuffle(shuffled)
     rng.shuffle(edges)
-    return batch_of(shuffled, edges, mutations)
+    batch = batch_of(shuffled, edges, mutations)
+    batch[9] = stocks(len(shuffled))
+    return batch
 
 
 def history(rng):
@@ -85,7 +87,8 @@ def history(rng):
     first = [(100, b) for b in names[:size]] + [(120, names[-1])]
     above = [(0, rng.randint(1, length), size, u) for u in range(size) if rng.random() < 0.5]
     marks = [(s, u, rng.randrange(256)) for s in range(len(positions)) for u in (size, rng.randrange(size)) if rng.random() < 0.4]
-    start = tables(first, above, [(x, rng.randrange(256)) for x in positions], marks)[:11]
+    start = tables(first, above, [(x, rng.randrange(256)) for x in positions], marks)[:12]
+    start[11] = stocks(len(first))
     live, batches = {b: t for t, b in first}, []
     for g in range(1, generations + 1):
         births = names[g * size:(g + 1) * size]
@@ -117,7 +120,7 @@ def steps_of(rng, length, start, batches, last, forget=False):
             listed += [b for b in record[1] if b not in named and rng.random() < 0.15]
             rng.shuffle(listed)
             steps.append((CLEAN, [listed]))
-            record = clean(length, record + [listed])[:11]
+            record = clean(length, record + [listed])[:12]
     return steps + [(LAST, [last])]
 
 

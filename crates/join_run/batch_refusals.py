@@ -43,13 +43,14 @@ def few():
 def base_first(case):
     """1 to 10 of the base, each with a batch that breaks every rule."""
     base, batch = few()
-    spoiled = [[], [10], [9], [9], [99], [99], [99], [99], [1]]
-    ragged = [base[:10] + [base[10][:-1]], base[:7] + [[1]] + base[8:], base[:2] + [[]] + base[3:], [[0]] + base[1:]]
-    for t, columns in zip((4, 3, 2, 1), ragged):
+    spoiled = [[], [10], [9], [9], [99], [99], [99], [99], [1], [7, 7]]
+    ragged = [base[:10] + [base[10][:-1]] + base[11:], base[:7] + [[1]] + base[8:], base[:2] + [[]] + base[3:], [[0]] + base[1:],
+              base[:11] + [base[11][:-1]], base[:11] + [base[11] + [0]]]
+    for t, columns in zip((4, 3, 2, 1, 1, 1), ragged):
         yield case(LENGTH, columns, spoiled, due=(1, t))
-    long = [[0] * 1025] * 2 + [[0] * 4097] * 4 + [[0] * 513] * 2 + [[0] * 1025] * 3
+    long = [[0] * 1025] * 2 + [[0] * 4097] * 4 + [[0] * 513] * 2 + [[0] * 1025] * 4
     for t, n in ((1, 0), (2, 2), (3, 6), (4, 8)):
-        yield case(LENGTH, [[] if k < n else c for k, c in enumerate(long)], spoiled, due=(2, t))
+        yield case(LENGTH, [[] if k < n or n and k == 11 else c for k, c in enumerate(long)], spoiled, due=(2, t))
     for length in (0, LONGEST + 1, NONE):
         yield case(length, changed(base, (1, 2, 1)), spoiled, due=(3, 0))
     yield case(LENGTH, changed(base, (1, 2, 1), (3, 0, 99)), spoiled, due=(4, 2))
@@ -69,17 +70,17 @@ def shapes(case):
             for cells in (batch[k][:-1], batch[k] + batch[k][:1]):
                 yield case(LENGTH, base, batch[:k] + [cells] + batch[k + 1:], due=(20, t))
     ragged = copied(batch)
-    for t, k in ((4, 8), (2, 3), (1, 0)):
+    for t, k in ((4, 8), (2, 3), (1, 9), (1, 0)):
         ragged[k] = []
         yield case(LENGTH, base, ragged, due=(20, t))
     # hides 21 and all after it
-    yield case(LENGTH, base, [[0] * 1022] * 2 + [[0] * 5000] * 4 + [[0] * 1024] * 2 + [[0] * 1025], due=(20, 4))
+    yield case(LENGTH, base, [[0] * 1022] * 2 + [[0] * 5000] * 4 + [[0] * 1024] * 2 + [[0] * 1025, [0] * 1022], due=(20, 4))
 
 
 def births(case):
     """22: in the base, earlier in the batch; hides 23."""
     base, batch = full()
-    batch[2:] = [[] for _ in range(7)]
+    batch[2:9] = [[] for _ in range(7)]
     for i in (0, 1022):
         yield case(LENGTH, base, changed(batch, (1, i, 9000)), due=(22, i))
     for i, j in ((1, 0), (1022, 0), (1022, 1021)):
@@ -94,7 +95,7 @@ def edges(case):
     """23 and 24."""
     base, batch = full()
     yield case(LENGTH, base, batch, due=(0, 0))
-    batch[6:] = [[] for _ in range(3)]
+    batch[6:9] = [[] for _ in range(3)]
     for i in (0, 4095):
         left, own = batch[2][i], batch[1].index(batch[5][i])
         for edit in ((5, i, 9000), (5, i, 8999), (4, i, 8999), (3, i, left), (3, i, LENGTH + 1), (2, i, LENGTH), (4, i, batch[5][i]),

@@ -5,10 +5,10 @@
 
 A case is four little-endian words (kind: 0 ends a group and holds its name; the bytes that follow; where the numbers start in
 them; how many numbers) and the bytes: the states of base and batch, then the numbers, each one byte below 254, or 254 and two
-bytes, or 255 and four. The numbers: L; number, row and four counts of the answer due; the lent length of each of the eleven output
-columns; start and length of the eleven columns of the base, of the nine of the batch and of the eleven due; then the columns.
+bytes, or 255 and four. The numbers: L; number, row and four counts of the answer due; the lent length of each of the twelve output
+columns; start and length of the twelve columns of the base, of the ten of the batch and of the twelve due; then the columns.
 
-That the program can tell was tried with faults planted in the second join. Of 1,900 cases differed: batch mutations put before the
+That the program can tell was tried with faults planted in the second join, before there were populations. Of 1,900 cases differed: batch mutations put before the
 base's 553, the earlier row of a shared pair told for 24 32, touching edges merged 769, batch edges dropped whose parent is in the
 batch 704, ties ordered by row 1,034.
 """
@@ -19,10 +19,10 @@ import sys
 sys.dont_write_bytecode = True
 from joining import answer, join
 from frames import base_of, batch_of, ended, framed, placed
-from histories import copied, damaged, small
+from histories import STOCKS, copied, damaged, small, spoil, stocks
 from second import LONGEST, NONE, TABLES
 
-ROOM = [1024] * 2 + [4096] * 4 + [512] * 2 + [1024] * 3
+ROOM = [1024] * 2 + [4096] * 4 + [512] * 2 + [1024] * 4
 
 
 def case(length, base, batch, lent=None, due=None):
@@ -32,17 +32,17 @@ def case(length, base, batch, lent=None, due=None):
     if due is not None:
         assert due in ((number, row), (number, row, out)), (due, number, row)
     states, cells = bytearray(), []
-    places = placed(base, (7, 10), 80, states, cells)
-    places += placed(batch, (8,), 80, states, cells)
-    places += placed(out, (), 80, states, cells)
+    places = placed(base, (7, 10), 87, states, cells)
+    places += placed(batch, (8,), 87, states, cells)
+    places += placed(out, (), 87, states, cells)
     return framed(bytes(states), [length, number, row] + counts + lent + places + cells)
 
 
 # 01's listing as a record, and two births under its fish
-RECORD = base_of([(10, 501), (10, 502), (11, 401), (12, 301), (13, 201)],
+RECORD = base_of([(10, 501, 7), (10, 502, 0), (11, 401, 65535), (12, 301, 7), (13, 201, 40000)],
                  [(0, 10, 2, 0), (4, 6, 2, 1), (0, 10, 3, 2), (0, 4, 3, 1), (6, 10, 3, 1), (0, 10, 4, 3)],
                  [(5, 65), (8, 67), (9, 71)], [(0, 3, 84), (1, 4, 84), (1, 2, 71)])
-NODES = [(5, 601), (5, 602), (4, 701)]
+NODES = [(5, 601, 1), (5, 602, 65535), (4, 701, 0)]
 EDGES = [(0, 4, 501, 601), (4, 10, 502, 601), (0, 10, 601, 701), (0, 10, 401, 602)]
 MUTATIONS = [(2, 701, 67), (0, 601, 65), (1, 602, 84)]
 BATCH = batch_of(NODES, EDGES, MUTATIONS)
@@ -81,7 +81,7 @@ def empties():
     yield case(10, NOTHING, EMPTY, due=(0, 0, NOTHING))
     own = batch_of([(3, 1), (2, NONE), (1, 0)], [(0, 5, NONE, 0), (5, 10, 1, 0), (0, 10, 1, NONE)])
     yield case(10, NOTHING, own, due=(0, 0))
-    yield case(10, NOTHING, EMPTY, [0] * 11, (0, 0))
+    yield case(10, NOTHING, EMPTY, [0] * 12, (0, 0))
     yield case(10, base_of([], [], [(3, 4)]), EMPTY, due=(0, 0))
     yield case(10, NOTHING, BATCH, due=(23, 0))
     yield case(0, NOTHING, EMPTY, due=(3, 0))
@@ -104,18 +104,18 @@ def touching():
 def rooms():
     """Every output column one short, exactly fitting and one longer; two short at once; ragged columns; cells past the result."""
     fits = [len(c) for c in join(RECORD, BATCH)]
-    table = [next(t + 1 for t, cs in enumerate(TABLES[:4]) if k in cs) for k in range(11)]
+    table = [next(t + 1 for t, cs in enumerate(TABLES[:4]) if k in cs) for k in range(12)]
     yield case(10, RECORD, BATCH, fits, (0, 0))
     yield case(10, RECORD, BATCH, [n + 1 for n in fits], (0, 0))
     yield case(10, RECORD, BATCH, [n + 1 for n in ROOM], (0, 0))
     yield case(10, RECORD, BATCH, [n + k for k, n in enumerate(fits)], (0, 0))
-    yield case(10, RECORD, BATCH, [0] * 11, (13, 1))
-    for k in range(11):
+    yield case(10, RECORD, BATCH, [0] * 12, (13, 1))
+    for k in range(12):
         yield case(10, RECORD, BATCH, [n - (j == k) for j, n in enumerate(fits)], (13, table[k]))
         yield case(10, RECORD, BATCH, [n if j == k else n + 1 for j, n in enumerate(fits)], (0, 0))
         yield case(10, RECORD, BATCH, [0 if j == k else n for j, n in enumerate(ROOM)], (13, table[k]))
         for i in range(k):
-            yield case(10, RECORD, BATCH, [n - (j in (i, k)) for j, n in enumerate(fits)], (13, table[i]))
+            yield case(10, RECORD, BATCH, [n - (j in (i, k)) for j, n in enumerate(fits)], (13, min(table[i], table[k])))
     # the sites' room is asked for though no site comes
     yield case(10, RECORD, EMPTY, [2 if k == 7 else n for k, n in enumerate(ROOM)], (13, 3))
 
@@ -136,7 +136,7 @@ def in_a_row():
 def random_join(rng):
     """L, a base and a batch: a small history cut at a birth of youngest fish, which hang below any older fish."""
     length, columns = small(rng)
-    base = copied(columns[:11])
+    base = copied(columns[:12])
     base[0] = [t // 2 + 9 for t in base[0]] if max(base[0]) > NONE - 9 else [t + 9 for t in base[0]]
     olds = {b: t for t, b in zip(base[0], base[1])}
     for k in range(len(base[2]) - 1, -1, -1):
@@ -158,7 +158,9 @@ def random_join(rng):
     rng.shuffle(rows)
     if rng.random() < 0.8:
         rows.sort(key=lambda m: -m[1])
-    return length, base, batch_of(young, edges, [(s, b, rng.randrange(256)) for s, _, b in rows])
+    batch = batch_of(young, edges, [(s, b, rng.randrange(256)) for s, _, b in rows])
+    batch[9] = stocks(len(young))
+    return length, base, batch
 
 
 def any_room(rng, fits):
@@ -167,11 +169,13 @@ def any_room(rng, fits):
     if rng.random() < 0.1:
         k = rng.randrange(11)
         lent[k] = max(fits[k] - 1, 0)
+    if STOCKS.random() < 0.02:
+        lent[11] = max(fits[11] - 1, 0)
     return lent
 
 
 def damaged_batch(rng, length, base, batch):
-    """One to three random changes of the batch's columns: a cell, a row exchanged, twice, a cell too few or too many."""
+    """One to three random changes of the batch's columns: a cell, a row exchanged, twice, a cell too few or too many; and the populations."""
     batch = copied(batch)
     names = base[1] + batch[1] + [7]
     for _ in range(rng.choice([1, 1, 2, 3])):
@@ -190,6 +194,7 @@ def damaged_batch(rng, length, base, batch):
             column[i] = rng.randrange(256)
         elif column:
             column[i] = rng.choice([column[i] + 1, max(column[i] - 1, 0), rng.randrange(13), NONE, length]) % (NONE + 1)
+    spoil(batch[9])
     return batch
 
 
@@ -204,7 +209,7 @@ def damaged_cases(rng, n):
         length, base, batch = random_join(rng)
         if i % 3 == 0:
             length, columns = damaged(rng, length, base + [[]])
-            base = columns[:11]
+            base = columns[:12]
         if i % 3 != 0 or i % 2 == 0:
             batch = damaged_batch(rng, length, base, batch)
         yield case(length, base, batch, any_room(rng, [len(c) for c in answer(length, base, batch, ROOM)[3]]))

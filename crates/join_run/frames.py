@@ -1,7 +1,7 @@
 """How cases of joins are written: the numbers in few bytes, the columns, and the end of a group."""
 import struct
 
-from histories import tables
+from histories import stock, tables
 
 
 def packed(v):
@@ -31,12 +31,13 @@ def placed(columns, bytes_at, start, states, cells):
 
 
 def batch_of(nodes, edges=(), mutations=()):
-    """The nine columns of a batch, rows as they come."""
-    return [[r[k] for r in rows] for rows, width in ((nodes, 2), (edges, 4), (mutations, 3)) for k in range(width)]
+    """The ten columns of a batch, rows as they come; a row of nodes may give its population."""
+    columns = [[r[k] for r in rows] for rows, width in ((nodes, 2), (edges, 4), (mutations, 3)) for k in range(width)]
+    return columns + [list(map(stock, nodes))]
 
 
 def base_of(nodes, edges=(), sites=(), mutations=()):
-    return tables(nodes, edges, sites, mutations)[:11]
+    return tables(nodes, edges, sites, mutations)[:12]
 
 
 def ended(name, cases):

@@ -1,7 +1,8 @@
 """A second join, written from 01 alone, for the cases of join_run and history_run.
 
-A base is eleven columns: time, birth, left, right, parent, child, position, ancestral, site, node, derived. A batch is nine: time,
-birth, left, right, parent birth, child birth, site, node birth, derived. The base's check is that of clean_run's second.py.
+A base is twelve columns: time, birth, left, right, parent, child, position, ancestral, site, node, derived, population. A batch is ten:
+time, birth, left, right, parent birth, child birth, site, node birth, derived, population. The base's check is that of clean_run's
+second.py.
 """
 import os
 import sys
@@ -11,12 +12,12 @@ sys.dont_write_bytecode = True
 from second import MOST, TABLES, check, too_old
 
 # columns of each batch table, with its number and the table of the base that it goes into
-BATCH = [(1, [0, 1], TABLES[0]), (2, [2, 3, 4, 5], TABLES[1]), (4, [6, 7, 8], TABLES[3])]
+BATCH = [(1, [0, 1, 9], TABLES[0]), (2, [2, 3, 4, 5], TABLES[1]), (4, [6, 7, 8], TABLES[3])]
 
 
 def check_batch(length, base, batch):
     """01's number and row, 20 to 26; (0, 0) where there is no refusal. The base is sound."""
-    time, birth, left, right, parent, child, site, node, derived = batch
+    time, birth, left, right, parent, child, site, node, derived, population = batch
     for t, own, _ in BATCH:
         if len({len(batch[k]) for k in own}) > 1:
             return 20, t
@@ -52,7 +53,7 @@ def check_batch(length, base, batch):
 
 
 def join(base, batch):
-    """The eleven columns of the result, of a base and a batch that pass the check."""
+    """The twelve columns of the result, of a base and a batch that pass the check."""
     time, birth = base[0] + batch[0], base[1] + batch[1]
     row = {b: i for i, b in enumerate(birth)}
     edges = list(zip(*base[2:6]))
@@ -62,12 +63,12 @@ def join(base, batch):
     mutations += [(s, row[u], d) for s, u, d in zip(*batch[6:9])]
     mutations.sort(key=lambda m: m[0])
     out = [time, birth] + [[e[k] for e in edges] for k in range(4)] + [list(base[6]), list(base[7])]
-    return out + [[m[k] for m in mutations] for k in range(3)]
+    return out + [[m[k] for m in mutations] for k in range(3)] + [base[11] + batch[9]]
 
 
 def answer(length, base, batch, lent):
     """Number, row, the four counts and the result columns (none after a refusal), for output columns of the lent lengths."""
-    nothing = [0] * 4, [[] for _ in range(11)]
+    nothing = [0] * 4, [[] for _ in range(12)]
     number, row = check(length, base + [[]])
     if not number:
         number, row = check_batch(length, base, batch)

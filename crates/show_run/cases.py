@@ -17,14 +17,14 @@ import histories
 from histories import tables
 from second import LONGEST, NONE, answer
 
-# mark, most rows, widths of the fields, the columns that they fill
-KINDS = [(b'SA', 256, '<I', [11]), (b'ND', 1024, '<II', [0, 1]), (b'ED', 4096, '<IIHH', [2, 3, 4, 5]),
+# mark, most rows, widths of the fields, the columns that they fill; no field fills that of the populations, 11
+KINDS = [(b'SA', 256, '<I', [12]), (b'ND', 1024, '<II', [0, 1]), (b'ED', 4096, '<IIHH', [2, 3, 4, 5]),
          (b'SI', 512, '<IB', [6, 7]), (b'MU', 1024, '<HHB', [8, 9, 10])]
-ROOM = [1024] * 2 + [4096] * 4 + [512] * 2 + [1024] * 4
+ROOM = [1024] * 2 + [4096] * 4 + [512] * 2 + [1024] * 5
 
 
 def stored(length, columns):
-    """The file of these tables, or nothing where a row number is too wide or columns differ in length."""
+    """The file of these tables but their populations, or nothing where a row number is too wide or columns differ in length."""
     out = b'SQ' + struct.pack('<I', length)
     for mark, _, form, ks in KINDS:
         if len({len(columns[k]) for k in ks}) > 1:
@@ -37,8 +37,8 @@ def stored(length, columns):
 
 
 def read(s):
-    """L and the columns, or number and row of the refusal."""
-    columns, at, stage = [[] for _ in range(12)], 0, -1
+    """L and the columns, each population 0, or number and row of the refusal."""
+    columns, at, stage = [[] for _ in range(13)], 0, -1
     while True:
         mark = s[at:at + 2]
         if len(mark) < 2:
@@ -51,6 +51,7 @@ def read(s):
             length, at, stage = struct.unpack_from('<I', s, 2)[0], 6, 0
             continue
         if mark == b'EN':
+            columns[11] = [0] * len(columns[0])
             return (33, at + 2) if len(s) > at + 2 else (0, length, columns)
         kind = next((k for k in range(stage, 5) if KINDS[k][0] == mark), None)
         if kind is None:
@@ -76,11 +77,11 @@ def printed(s):
     if number:
         return 'refused %d %d\n' % (number, row)
     lines = ['Q %d' % got[1]]
-    lines += ['N %d %d %d' % (i, t, b) for i, (t, b) in enumerate(zip(*out[0:2]))]
+    lines += ['N %d %d %d %d' % (i, t, b, p) for i, (t, b, p) in enumerate(zip(out[0], out[1], out[11]))]
     lines += ['E %d %d %d %d' % e for e in zip(*out[2:6])]
     lines += ['S %d %d' % s for s in zip(*out[6:8])]
     lines += ['M %d %d %d' % m for m in zip(*out[8:11])]
-    lines += ['X %d %s' % (i, '-' if v == NONE else v) for i, v in enumerate(out[11])]
+    lines += ['X %d %s' % (i, '-' if v == NONE else v) for i, v in enumerate(out[12])]
     return '\n'.join(lines) + '\n'
 
 
@@ -113,7 +114,7 @@ def refused():
     yield stored(0, columns)
     yield stored(LONGEST + 1, columns)
     for k, i, v in ((1, 1, 501), (3, 5, 11), (0, 4, 2), (4, 0, 5), (4, 0, 65535), (2, 1, 6), (3, 3, 5), (6, 1, 5), (6, 1, 10),
-                    (8, 0, 2), (8, 0, 65535), (9, 2, 9), (8, 1, 0), (9, 2, 4), (11, 1, 500), (11, 1, 501)):
+                    (8, 0, 2), (8, 0, 65535), (9, 2, 9), (8, 1, 0), (9, 2, 4), (12, 1, 500), (12, 1, 501)):
         edited = histories.copied(columns)
         edited[k][i] = v
         yield stored(length, edited)
@@ -136,7 +137,7 @@ def long():
     """Files of 65,536 bytes, and of one more."""
     length, columns = histories.one_child(599, 4096)
     columns[6:11] = [list(range(40)), list(range(40)), [k // 2 for k in range(56)], [0] * 56, list(range(56))]
-    columns[11] = columns[11][:252]
+    columns[12] = columns[12][:252]
     whole = stored(length, columns)
     assert len(whole) == 65536 and printed(whole).startswith('Q ')
     yield whole

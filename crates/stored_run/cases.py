@@ -2,8 +2,8 @@
 """Makes crates/stored_run/stdin: cases for the stored form with what a second reader, written here from 01 alone, says of each.
 
 A case is a head of 17 little-endian words and the bytes: kind (0 ends a group and holds its name, 1 reads into room for
-every limit, 2 into a few rows), the number of bytes, six unused, then number, row, L, rows of tables 1 to 5 and a number
-for all lent cells.
+every limit, 2 and 3 into a few rows), the number of bytes, six unused, then number, row, L, rows of tables 1 to 5 and a number
+for all lent cells. The population, the last column of the nodes, has no field: it is 0 in each row read.
 """
 import struct
 import sys
@@ -12,8 +12,9 @@ MARKS = [b'SA', b'ND', b'ED', b'SI', b'MU']
 FIELDS = {b'SA': [4], b'ND': [4, 4], b'ED': [4, 4, 2, 2], b'SI': [4, 1], b'MU': [2, 2, 1]}
 MOST = {b'SA': 256, b'ND': 1024, b'ED': 4096, b'SI': 512, b'MU': 1024}
 ROOM = {
-    1: {b'SA': [256], b'ND': [1024, 1024], b'ED': [4096] * 4, b'SI': [512, 512], b'MU': [1024] * 3},
-    2: {b'SA': [1], b'ND': [4, 3], b'ED': [5, 5, 4, 5], b'SI': [2, 3], b'MU': [3, 3, 2]},
+    1: {b'SA': [256], b'ND': [1024, 1024, 1024], b'ED': [4096] * 4, b'SI': [512, 512], b'MU': [1024] * 3},
+    2: {b'SA': [1], b'ND': [4, 3, 4], b'ED': [5, 5, 4, 5], b'SI': [2, 3], b'MU': [3, 3, 2]},
+    3: {b'SA': [1], b'ND': [4, 4, 3], b'ED': [5, 5, 4, 5], b'SI': [2, 3], b'MU': [3, 3, 2]},
 }
 TABLES = [b'ND', b'ED', b'SI', b'MU', b'SA']
 
@@ -49,7 +50,7 @@ def read(s, room):
         for w in FIELDS[mark]:
             row.append(int.from_bytes(s[o:o + w], 'little'))
             o += w
-        rows[mark].append(row)
+        rows[mark].append(row + [0] if mark == b'ND' else row)
         at = o
     for i, m in enumerate(TABLES):
         if len(rows[m]) > min(room[m]):
@@ -116,10 +117,10 @@ def main():
     group('limits', ends)
     group('bytes after EN', [(1, whole + e) for e in (b'\n', b'E', b'EN', whole)])
     fits = {b'SA': 1, b'ND': 3, b'ED': 4, b'SI': 2, b'MU': 2}
-    close = [(2, first(3) + b''.join(some(m, fits[m] + (1 if m in more else 0)) for m in MARKS) + b'EN')
-             for more in [()] + [tuple(TABLES[i:]) for i in range(5)] + [(m,) for m in TABLES]]
+    close = [(kind, first(3) + b''.join(some(m, fits[m] + (1 if m in more else 0)) for m in MARKS) + b'EN')
+             for kind in (2, 3) for more in [()] + [tuple(TABLES[i:]) for i in range(5)] + [(m,) for m in TABLES]]
     group('little room', close)
-    group('no rows', [(1, first(0) + b'EN'), (1, first(1073741825) + b'EN'), (2, first(0) + b'EN')])
+    group('no rows', [(1, first(0) + b'EN'), (1, first(1073741825) + b'EN'), (2, first(0) + b'EN'), (3, first(0) + b'EN')])
     sys.stdout.buffer.write(b''.join(out))
 
 

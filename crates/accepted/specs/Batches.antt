@@ -25,6 +25,7 @@ use Rattle.accepted.specs.Checked.{Apart}
 -- 20
 pub record BatchShaped (B : BatchTables) : Type 0 where
   pub births : length (B .nodes .birth) ≡ length (B .nodes .time)
+  pub populations : length (B .nodes .population) ≡ length (B .nodes .time)
   pub rights : length (B .edges .right) ≡ length (B .edges .left)
   pub parents : length (B .edges .parent) ≡ length (B .edges .left)
   pub children : length (B .edges .child) ≡ length (B .edges .left)
@@ -71,11 +72,12 @@ module _ (B : BatchTables) (rest : Answer) where
   batch-shaped : Accepted (batchShapes B rest) → BatchShaped B × Accepted rest
   unfolding batchShapes
   batch-shaped h =
-      let n : _ = passed-even (B .nodes .time) (B .nodes .birth ∷ []) 20 1 _ (omega arith) h in
+      let n : _ = passed-even (B .nodes .time) (B .nodes .birth ∷ B .nodes .population ∷ []) 20 1 _ (omega arith) h in
       let e : _ = passed-even (B .edges .left) (B .edges .right ∷ B .edges .parent ∷ B .edges .child ∷ []) 20 2 _ (omega arith) (n .1) in
       let m : _ = passed-even (B .muts .site) (B .muts .node ∷ B .muts .derived ∷ []) 20 4 rest (omega arith) (e .1) in (
         record {
           births = first-of (n .0);
+          populations = first-of (rest-of (n .0));
           rights = first-of (e .0);
           parents = first-of (rest-of (e .0));
           children = first-of (rest-of (rest-of (e .0)));
@@ -88,7 +90,7 @@ module _ (B : BatchTables) (rest : Answer) where
   of-batch-shaped : BatchShaped B → batchShapes B rest ≡ rest
   unfolding batchShapes
   of-batch-shaped h =
-      pass-even (B .nodes .time) (B .nodes .birth ∷ []) 20 1 _ (also (h .births) All.done)
+      pass-even (B .nodes .time) (B .nodes .birth ∷ B .nodes .population ∷ []) 20 1 _ (also (h .births) (also (h .populations) All.done))
       ∙ pass-even (B .edges .left) (B .edges .right ∷ B .edges .parent ∷ B .edges .child ∷ []) 20 2 _ (also (h .rights) (also (h .parents) (also (h .children) All.done)))
       ∙ pass-even (B .muts .site) (B .muts .node ∷ B .muts .derived ∷ []) 20 4 rest (also (h .mutated) (also (h .derived) All.done))
 

@@ -20,6 +20,7 @@ use Rattle.accepted.specs.Tests.{LengthRight, length-right, of-length, n
 -- 1: the columns of each table are as long as its first
 pub record Shaped (T : Tables) : Type 0 where
   pub births : length (T .nodes .birth) ≡ length (T .nodes .time)
+  pub populations : length (T .nodes .population) ≡ length (T .nodes .time)
   pub rights : length (T .edges .right) ≡ length (T .edges .left)
   pub parents : length (T .edges .parent) ≡ length (T .edges .left)
   pub children : length (T .edges .child) ≡ length (T .edges .left)
@@ -74,12 +75,13 @@ module _ (T : Tables) (rest : Answer) where
   shaped : Accepted (shapes T rest) → Shaped T × Accepted rest
   unfolding shapes
   shaped h =
-      let n : _ = passed-even (T .nodes .time) (T .nodes .birth ∷ []) 1 1 _ (omega arith) h in
+      let n : _ = passed-even (T .nodes .time) (T .nodes .birth ∷ T .nodes .population ∷ []) 1 1 _ (omega arith) h in
       let e : _ = passed-even (T .edges .left) (T .edges .right ∷ T .edges .parent ∷ T .edges .child ∷ []) 1 2 _ (omega arith) (n .1) in
       let s : _ = passed-even (T .sites .position) (T .sites .ancestral ∷ []) 1 3 _ (omega arith) (e .1) in
       let m : _ = passed-even (T .muts .site) (T .muts .node ∷ T .muts .derived ∷ []) 1 4 rest (omega arith) (s .1) in (
         record {
           births = first-of (n .0);
+          populations = first-of (rest-of (n .0));
           rights = first-of (e .0);
           parents = first-of (rest-of (e .0));
           children = first-of (rest-of (rest-of (e .0)));
@@ -93,7 +95,7 @@ module _ (T : Tables) (rest : Answer) where
   of-shaped : Shaped T → shapes T rest ≡ rest
   unfolding shapes
   of-shaped h =
-      pass-even (T .nodes .time) (T .nodes .birth ∷ []) 1 1 _ (also (h .births) All.done)
+      pass-even (T .nodes .time) (T .nodes .birth ∷ T .nodes .population ∷ []) 1 1 _ (also (h .births) (also (h .populations) All.done))
       ∙ pass-even (T .edges .left) (T .edges .right ∷ T .edges .parent ∷ T .edges .child ∷ []) 1 2 _ (also (h .rights) (also (h .parents) (also (h .children) All.done)))
       ∙ pass-even (T .sites .position) (T .sites .ancestral ∷ []) 1 3 _ (also (h .states) All.done)
       ∙ pass-even (T .muts .site) (T .muts .node ∷ T .muts .derived ∷ []) 1 4 rest (also (h .mutated) (also (h .derived) All.done))

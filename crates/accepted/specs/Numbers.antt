@@ -5,7 +5,7 @@ use Prim.Native.Nat.{ℕ}
 use lib.Dec.{eqb}
 use Rattle.meaning.specs.Answer.{Answer, Stated, accepted, refusalOf, checkedOf, alleleOf}
 use Rattle.meaning.specs.declared.Refusal.{Refusal}
-use Rattle.meaning.specs.declared.Refusal.the-variants.{Ragged, TooMany, Length, BirthRepeated, EdgeBroken, EdgeOrder, EdgeShared, SiteBroken, MutationBroken, MutationAbove, SampleUnknown, SampleRepeated, NoRoom, BatchRagged, BatchTooMany, BatchBirth, BatchEdge, BatchShared, BatchMutation, BatchAbove, MarkWrong, BytesEnd, BytesFollow, RowsOver, EdgeWide, MutationWide, NoSite, NoBirth}
+use Rattle.meaning.specs.declared.Refusal.the-variants.{Ragged, TooMany, Length, BirthRepeated, EdgeBroken, EdgeOrder, EdgeShared, SiteBroken, MutationBroken, MutationAbove, SampleUnknown, SampleRepeated, NoRoom, BatchRagged, BatchTooMany, BatchBirth, BatchEdge, BatchShared, BatchMutation, BatchAbove, MarkWrong, BytesEnd, BytesFollow, RowsOver, EdgeWide, MutationWide, Populated, NoSite, NoBirth}
 use Rattle.meaning.specs.declared.Checked.{Checked}
 use Rattle.meaning.specs.declared.Checked.the-variants as checked
 use Rattle.meaning.specs.declared.Allele.{Allele}
@@ -44,7 +44,8 @@ named a =
     (by (a .number) 34 (RowsOver (a .row))
     (by (a .number) 35 (EdgeWide (a .row))
     (by (a .number) 36 (MutationWide (a .row))
-    (by (a .number) 41 NoSite NoBirth))))))))))))))))))))))))))
+    (by (a .number) 38 (Populated (a .row))
+    (by (a .number) 41 NoSite NoBirth)))))))))))))))))))))))))))
 
 -- a refusal is not 0, and is the one that its number and row name
 named-is : (r : Refusal) → (accepted (refusalOf r) ≡ false) × (named (refusalOf r) ≡ r)
@@ -75,6 +76,7 @@ named-is (BytesFollow o) = (refl, refl)
 named-is (RowsOver o) = (refl, refl)
 named-is (EdgeWide r) = (refl, refl)
 named-is (MutationWide r) = (refl, refl)
+named-is (Populated r) = (refl, refl)
 named-is NoSite = (refl, refl)
 named-is NoBirth = (refl, refl)
 

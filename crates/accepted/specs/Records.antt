@@ -7,7 +7,7 @@ use Prim.Native.Nat.{ℕ, _<_}
 use native.Mathlib.Omega.{arith}
 use lib.ListN.{length}
 use Rattle.meaning.specs.Words.{at, mem, indexOf}
-use Rattle.meaning.specs.Rows.{NodeColumns, EdgeColumns, Tables, Node, Edge, Mutation, births, nodesOf, edgesOf, sitesOf, mutsOf, recordOf, timeOf, posOf}
+use Rattle.meaning.specs.Rows.{NodeColumns, EdgeColumns, Tables, Node, Edge, Mutation, births, nodeAt, nodesOf, edgesOf, sitesOf, mutsOf, recordOf, timeOf, posOf}
 use Rattle.meaning.specs.Forest.{Ages}
 use Rattle.meaning.specs.Answer.{Limits}
 use Rattle.laws.specs.Members.{at-mem, index-at, index-below}
@@ -23,7 +23,7 @@ Young N = (i : ℕ) → i < length (N .time) → at (N .time) i < Ages
 
 pub young-of : (N : NodeColumns) → Young N → (b : ℕ) → timeOf (nodesOf N) b < Ages
 unfolding nodesOf
-young-of N y b = time-below Ages (nodesOf N) b (omega arith) (all-rows (λ (n : Node). n .time < Ages) (λ i. record { time = at (N .time) i; birth = at (N .birth) i }) (length (N .time)) y)
+young-of N y b = time-below Ages (nodesOf N) b (omega arith) (all-rows (λ (n : Node). n .time < Ages) (nodeAt N) (length (N .time)) y)
 
 -- a row of the edges, with what an edge of v to q at x tells of it
 pub record Row (name : ℕ → ℕ) (E : EdgeColumns) (x v q i : ℕ) : Type 0 where

@@ -44,7 +44,7 @@ module _ (most : ℕ) (c : List ℕ) (l : List (List ℕ)) (need n r : ℕ) (res
 
 -- the rows of a result find room in the tables lent
 pub record Fits (m : Limits) (new out : Tables) : Type 0 where
-  pub nodes : Room (m .nodes) (out .nodes .time ∷ out .nodes .birth ∷ []) (length (new .nodes .time))
+  pub nodes : Room (m .nodes) (out .nodes .time ∷ out .nodes .birth ∷ out .nodes .population ∷ []) (length (new .nodes .time))
   pub edges : Room (m .edges) (out .edges .left ∷ out .edges .right ∷ out .edges .parent ∷ out .edges .child ∷ []) (length (new .edges .left))
   pub sites : Room (m .sites) (out .sites .position ∷ out .sites .ancestral ∷ []) (length (new .sites .position))
   pub muts : Room (m .mutations) (out .muts .site ∷ out .muts .node ∷ out .muts .derived ∷ []) (length (new .muts .site))
@@ -53,7 +53,7 @@ module _ (m : Limits) (new out : Tables) (rest : Answer) where
   pub fits-of : Accepted (fitThen m new out rest) → Fits m new out × Accepted rest
   unfolding fitThen
   fits-of h =
-      let n : _ = passed-room (m .nodes) (out .nodes .time) (out .nodes .birth ∷ []) (length (new .nodes .time)) 13 1 _ (omega arith) h in
+      let n : _ = passed-room (m .nodes) (out .nodes .time) (out .nodes .birth ∷ out .nodes .population ∷ []) (length (new .nodes .time)) 13 1 _ (omega arith) h in
       let e : _ = passed-room (m .edges) (out .edges .left) (out .edges .right ∷ out .edges .parent ∷ out .edges .child ∷ []) (length (new .edges .left)) 13 2 _ (omega arith) (n .1) in
       let s : _ = passed-room (m .sites) (out .sites .position) (out .sites .ancestral ∷ []) (length (new .sites .position)) 13 3 _ (omega arith) (e .1) in
       let u : _ = passed-room (m .mutations) (out .muts .site) (out .muts .node ∷ out .muts .derived ∷ []) (length (new .muts .site)) 13 4 rest (omega arith) (s .1) in
@@ -62,7 +62,7 @@ module _ (m : Limits) (new out : Tables) (rest : Answer) where
   pub of-fits : Fits m new out → fitThen m new out rest ≡ rest
   unfolding fitThen
   of-fits h =
-      pass-room (m .nodes) (out .nodes .time) (out .nodes .birth ∷ []) (length (new .nodes .time)) 13 1 _ (h .nodes)
+      pass-room (m .nodes) (out .nodes .time) (out .nodes .birth ∷ out .nodes .population ∷ []) (length (new .nodes .time)) 13 1 _ (h .nodes)
       ∙ pass-room (m .edges) (out .edges .left) (out .edges .right ∷ out .edges .parent ∷ out .edges .child ∷ []) (length (new .edges .left)) 13 2 _ (h .edges)
       ∙ pass-room (m .sites) (out .sites .position) (out .sites .ancestral ∷ []) (length (new .sites .position)) 13 3 _ (h .sites)
       ∙ pass-room (m .mutations) (out .muts .site) (out .muts .node ∷ out .muts .derived ∷ []) (length (new .muts .site)) 13 4 rest (h .muts)

@@ -41,11 +41,11 @@ module _ (M : MutationColumns) (i m v : ℕ) (l : v < m) where
 -- ---- the allele, branch by branch
 
 module _ (R : Record) (i b : ℕ) where
-  allele-none : near (parentIn (R .edges) (posOf (R .sites) i)) (carries (R .muts) i) Ages b ≡ none → alleleAt R i b ≡ stateOf (R .sites) i
+  pub allele-none : near (parentIn (R .edges) (posOf (R .sites) i)) (carries (R .muts) i) Ages b ≡ none → alleleAt R i b ≡ stateOf (R .sites) i
   unfolding alleleAt
   allele-none e = ap (λ (o : Option ℕ). elim o [ none ↦ stateOf (R .sites) i | some w ↦ lastState i w (R .muts) (stateOf (R .sites) i) ]) e
 
-  allele-some : (w : ℕ) → near (parentIn (R .edges) (posOf (R .sites) i)) (carries (R .muts) i) Ages b ≡ some w → alleleAt R i b ≡ lastState i w (R .muts) (stateOf (R .sites) i)
+  pub allele-some : (w : ℕ) → near (parentIn (R .edges) (posOf (R .sites) i)) (carries (R .muts) i) Ages b ≡ some w → alleleAt R i b ≡ lastState i w (R .muts) (stateOf (R .sites) i)
   unfolding alleleAt
   allele-some w e = ap (λ (o : Option ℕ). elim o [ none ↦ stateOf (R .sites) i | some w ↦ lastState i w (R .muts) (stateOf (R .sites) i) ]) e
 

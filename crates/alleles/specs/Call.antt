@@ -39,7 +39,7 @@ module _ (T : Tables) (i b : ℕ) where
   named-both h e = rw (lt-leb (length (T .sites .position)) i h) (rw e)
 
 module _ (L : ℕ) (T : Tables) (i b : ℕ) where
-  by-answer : (a : Answer) → named T i b ≡ a → readAllele L T i b ≡ readOf L T i b a
+  pub by-answer : (a : Answer) → named T i b ≡ a → readAllele L T i b ≡ readOf L T i b a
   unfolding readAllele
   by-answer a e = ap (readOf L T i b) e
 

@@ -4,7 +4,7 @@ ghost use mathlib.Core.Path.{_≡_};
 ghost use Prim.Native.Nat.{_<_};
 ghost use lib.ListN.{length, replicate, set};
 ghost use Rattle.meaning.specs.Words.{at, rows};
-ghost use Rattle.meaning.specs.Rows.{nodeTable, edgeTable, siteTable, mutationTable, tables};
+ghost use Rattle.meaning.specs.Rows.{ageTable, nodeTable, edgeTable, siteTable, mutationTable, tables};
 ghost use Rattle.meaning.specs.Answer.{alleleOf, done, limits};
 ghost use Rattle.meaning.specs.Allele.{allele};
 ghost use Rattle.order.specs.Ranks.{Ranked};
@@ -109,7 +109,7 @@ pub fn row_allele(
     requires { ⌜
         Readable len
         (tables
-        (nodeTable (now time) (now birth))
+        (ageTable (now time) (now birth))
         (edgeTable (now left) (now right) (now parent) (now child))
         (siteTable (now position) (now ancestral))
         (mutationTable (now site) (now node) (now derived))) (now «by_child») × (i < length (now position)) × (u < length (now time)) ⌝ }
@@ -117,7 +117,7 @@ pub fn row_allele(
         alleleOf r
         ≡ readOf len
         (tables
-        (nodeTable (now (time .entry)) (now (birth .entry)))
+        (ageTable (now (time .entry)) (now (birth .entry)))
         (edgeTable (now (left .entry)) (now (right .entry)) (now (parent .entry)) (now (child .entry)))
         (siteTable (now (position .entry)) (now (ancestral .entry)))
         (mutationTable (now (site .entry)) (now (node .entry)) (now (derived .entry)))) i (at (now (birth .entry)) u) done ⌝ }
@@ -183,7 +183,7 @@ fn read_allele(
     requires { ⌜
         Readable len
         (tables
-        (nodeTable (now time) (now birth))
+        (ageTable (now time) (now birth))
         (edgeTable (now left) (now right) (now parent) (now child))
         (siteTable (now position) (now ancestral))
         (mutationTable (now site) (now node) (now derived))) (now «by_child») × Ranked (now birth) (now «by_birth») ⌝ }
@@ -191,7 +191,7 @@ fn read_allele(
         alleleOf r
         ≡ readAllele len
         (tables
-        (nodeTable (now (time .entry)) (now (birth .entry)))
+        (ageTable (now (time .entry)) (now (birth .entry)))
         (edgeTable (now (left .entry)) (now (right .entry)) (now (parent .entry)) (now (child .entry)))
         (siteTable (now (position .entry)) (now (ancestral .entry)))
         (mutationTable (now (site .entry)) (now (node .entry)) (now (derived .entry)))) i b ⌝ }
@@ -227,6 +227,7 @@ fn allele_lent(
     len: u32,
     time: &[u32],
     birth: &[u32],
+    population: &[u16],
     left: &[u32],
     right: &[u32],
     parent: &[u32],
@@ -246,7 +247,7 @@ fn allele_lent(
         alleleOf r
         ≡ allele limits len
         (tables
-        (nodeTable (now (time .entry)) (now (birth .entry)))
+        (nodeTable (now (time .entry)) (now (birth .entry)) (now (population .entry)))
         (edgeTable (now (left .entry)) (now (right .entry)) (now (parent .entry)) (now (child .entry)))
         (siteTable (now (position .entry)) (now (ancestral .entry)))
         (mutationTable (now (site .entry)) (now (node .entry)) (now (derived .entry)))) i b ⌝ }
@@ -257,6 +258,7 @@ fn allele_lent(
         len,
         time,
         birth,
+        population,
         left,
         right,
         parent,
@@ -296,6 +298,7 @@ pub fn allele(
     len: u32,
     time: &[u32],
     birth: &[u32],
+    population: &[u16],
     left: &[u32],
     right: &[u32],
     parent: &[u32],
@@ -312,7 +315,7 @@ pub fn allele(
         alleleOf r
         ≡ allele limits len
         (tables
-        (nodeTable (now (time .entry)) (now (birth .entry)))
+        (nodeTable (now (time .entry)) (now (birth .entry)) (now (population .entry)))
         (edgeTable (now (left .entry)) (now (right .entry)) (now (parent .entry)) (now (child .entry)))
         (siteTable (now (position .entry)) (now (ancestral .entry)))
         (mutationTable (now (site .entry)) (now (node .entry)) (now (derived .entry)))) i b ⌝ }
@@ -323,6 +326,7 @@ pub fn allele(
         len,
         time,
         birth,
+        population,
         left,
         right,
         parent,

@@ -8,7 +8,7 @@ use native.Mathlib.Omega.{arith}
 use lib.ListN.{length}
 use borrow.Author.Tests.{eq-eqb, ne-eqb}
 use Rattle.meaning.specs.Words.{at, mem, indexOf, rows, rowsFrom}
-use Rattle.meaning.specs.Rows.{NodeColumns, Node, births, nodesOf, nodeOf, timeOf}
+use Rattle.meaning.specs.Rows.{NodeColumns, Node, births, nodeAt, nodesOf, nodeOf, timeOf}
 use Rattle.meaning.specs.Join.{timeIn}
 use Rattle.laws.specs.Bools.{clash, eq?, not-true, truth}
 use Rattle.laws.specs.Counting.{rows-at}
@@ -93,7 +93,7 @@ time-at N e b h =
     let col : rowsFrom (at (N .birth)) 0 (length (N .time)) ≡ N .birth = ap (rowsFrom (at (N .birth)) 0) (sym e) ∙ rows-at (N .birth) in
     let k : mem b (rowsFrom (at (N .birth)) 0 (length (N .time))) ≡ true = ap (mem b) col ∙ h in
     let q : 0 + indexOf b (rowsFrom (at (N .birth)) 0 (length (N .time))) ≡ indexOf b (N .birth) = omega (arith, ap (indexOf b) col) in
-    ap (λ (n : Node). n .time) (node-from (λ i. record { time = at (N .time) i; birth = at (N .birth) i }) b 0 (length (N .time)) k)
+    ap (λ (n : Node). n .time) (node-from (nodeAt N) b 0 (length (N .time)) k)
     ∙ ap (at (N .time)) q
 
 module _ (base N : NodeColumns) (s : length (base .birth) ≡ length (base .time)) (t : length (N .birth) ≡ length (N .time)) (b : ℕ) where

@@ -20,9 +20,10 @@ use Rattle.bridge.specs.Columns.{Apart}
 use Rattle.ancestry.specs.Column.{Rising}
 use Rattle.checker.proofs.Rows.{apart}
 use Rattle.checker.proofs.Order.{row-found, row-none, none-found}
-use Rattle.accepted.specs.Batches.{BatchShaped, BatchEdgeRight, edgesWith}
+use Rattle.accepted.specs.Batches.{BatchEdgeRight, edgesWith}
 use Rattle.batches.specs.Joint.{Joint}
-use Rattle.batches.specs.Asked.{readBase, readBatch, Above, BatchAsked}
+use Rattle.batches.specs.Asked.{Above, BatchAsked}
+use Rattle.batches.specs.Aged.{joint-aged}
 
 module _ (L : ℕ) (T : Tables) (B : BatchTables) where
   birth-parts : (i : ℕ) → batchBirth (T .nodes .birth) (B .nodes .birth) i ≡ false → (mem (at (B .nodes .birth) i) (T .nodes .birth) ≡ false) × (repeated (B .nodes .birth) i ≡ false)
@@ -49,12 +50,9 @@ module _ (L : ℕ) (T : Tables) (B : BatchTables) where
   mutation-parts i h = let p : _ = or-no (leb (length (T .sites .position)) (at (B .muts .site) i)) _ h in (leb-false (length (T .sites .position)) (at (B .muts .site) i) (p .0), not-no (mem (at (B .muts .node) i) (B .nodes .birth)) (p .1))
 
   module _ (asked : BatchAsked T B) where
-    pub batch-even : EvenEdges (B .edges)
-    batch-even = record { right-long = asked .shaped .rights; parent-long = asked .shaped .parents; child-long = asked .shaped .children }
-
     -- e is the row that the search for 23 gave: every edge holds somewhere, so 24 may be asked
     pub shared-asked : (e : ℕ) → e ≡ lowest (batchEdge L (T .nodes) (B .nodes) (B .edges)) (length (B .edges .left)) → length (B .edges .left) ≤ e → EvenEdges (B .edges) × Somewhere (B .edges) × (length (B .edges .left) ≤ limits .edges)
-    shared-asked e p l = (batch-even, record { held = λ i k. edge-right i (none-found _ _ e p l i k) .some-position }, omega (arith, asked .edges))
+    shared-asked e p l = (asked .shaped .edges, record { held = λ i k. edge-right i (none-found _ _ e p l i k) .some-position }, omega (arith, asked .edges))
 
     -- b, e, s and m are the rows that the searches for 22, 23, 24 and 25 gave
     module _ (b : ℕ) (pb : b ≡ lowest (batchBirth (T .nodes .birth) (B .nodes .birth)) (length (B .nodes .birth))) (lb : length (B .nodes .birth) ≤ b) (e : ℕ) (pe : e ≡ lowest (batchEdge L (T .nodes) (B .nodes) (B .edges)) (length (B .edges .left))) (le : length (B .edges .left) ≤ e) where
@@ -67,26 +65,24 @@ module _ (L : ℕ) (T : Tables) (B : BatchTables) where
         once = apart (B .nodes .birth) (λ i l. birth-parts i (none-found _ _ b pb lb i l) .1);
         fresh = λ i l. birth-parts i (none-found _ _ b pb lb i l) .0;
         rising = asked .rising;
-        even = batch-even;
+        even = asked .shaped .edges;
         edge = λ i l. edge-right i (none-found _ _ e pe le i l);
       }
 
       module _ (s : ℕ) (ps : s ≡ lowest (edgeShared (B .edges)) (length (B .edges .left))) (ls : length (B .edges .left) ≤ s) (m : ℕ) (pm : m ≡ lowest (batchMutation (length (T .sites .position)) (B .nodes .birth) (B .muts)) (length (B .muts .site))) (lm : length (B .muts .site) ≤ m) where
         -- so 26 may be asked
         pub above-asked : Above L (T .nodes .time) (T .nodes .birth) (T .edges) (T .sites .position) (B .nodes .time) (B .nodes .birth) (B .edges) (B .muts .site) (B .muts .node)
-        above-asked =
-            let j : _ = joint-found in
-            record {
-              joint = record { base-long = j .base-long; long = j .long; few = j .few; base-once = j .base-once; once = j .once; fresh = j .fresh; rising = j .rising; even = j .even; edge = j .edge };
-              edges = asked .edges;
-              sites = asked .sites;
-              mutations = asked .mutations;
-              apart = λ i l. none-found _ _ s ps ls i l;
-              rightwards = asked .rightwards;
-              node-long = asked .shaped .mutated;
-              site-row = λ i l. mutation-parts i (none-found _ _ m pm lm i l) .0;
-              node-in = λ i l. mutation-parts i (none-found _ _ m pm lm i l) .1;
-            }
+        above-asked = record {
+          joint = joint-aged L T B (T .sites .position) (B .muts .site) (B .muts .node) joint-found;
+          edges = asked .edges;
+          sites = asked .sites;
+          mutations = asked .mutations;
+          apart = λ i l. none-found _ _ s ps ls i l;
+          rightwards = asked .rightwards;
+          node-long = asked .shaped .mutated;
+          site-row = λ i l. mutation-parts i (none-found _ _ m pm lm i l) .0;
+          node-in = λ i l. mutation-parts i (none-found _ _ m pm lm i l) .1;
+        }
 
 -- 26 does not read the states
 stateless-row : (E : List Edge) (position site node derived : List ℕ) (i : ℕ) → mutationAbove E position (λ b. b) (record { site = site; node = node; derived = [] }) i ≡ mutationAbove E position (λ b. b) (record { site = site; node = node; derived = derived }) i

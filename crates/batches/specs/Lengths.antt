@@ -6,9 +6,9 @@ use Rattle.meaning.specs.Answer.{Limits}
 use Rattle.rules.specs.Lengths.{unlike, tableIf}
 
 -- 20: the lowest batch table whose columns differ in length
-unfoldable pub batchRagged : ℕ → ℕ → ℕ → ℕ → ℕ → ℕ → ℕ → ℕ → ℕ → ℕ
-batchRagged time birth left right parent child site node derived =
-    tableIf (unlike birth time) 1
+unfoldable pub batchRagged : ℕ → ℕ → ℕ → ℕ → ℕ → ℕ → ℕ → ℕ → ℕ → ℕ → ℕ
+batchRagged time birth population left right parent child site node derived =
+    tableIf (or (unlike birth time) (unlike population time)) 1
     (tableIf (or (unlike right left) (or (unlike parent left) (unlike child left))) 2
     (tableIf (or (unlike node site) (unlike derived site)) 4 0))
 

@@ -3,7 +3,7 @@ ghost use mathlib.Core.Path.{_≡_};
 ghost use Prim.Native.Nat.{_≤_};
 ghost use lib.ListN.{length};
 ghost use Rattle.meaning.specs.Words.{at, mem, lowest};
-ghost use Rattle.meaning.specs.Rows.{nodeTable};
+ghost use Rattle.meaning.specs.Rows.{ageTable};
 ghost use Rattle.meaning.specs.Answer.{limits};
 ghost use Rattle.meaning.specs.Join.{batchBirth, timeIn};
 ghost use Rattle.order.specs.Ranks.{Ranked, Helps};
@@ -47,7 +47,7 @@ pub fn time_of(
     b: u32,
 ) -> u32
     requires { ⌜ (length (now basebirth) ≡ length (now basetime)) × (length (now birth) ≡ length (now time)) × Helps (now basebirth) (now baseidx) × Helps (now birth) (now idx) ⌝ }
-    ensures { λ r. ⌜ r ≡ timeIn (nodeTable (now (basetime .entry)) (now (basebirth .entry))) (nodeTable (now (time .entry)) (now (birth .entry))) b ⌝ }
+    ensures { λ r. ⌜ r ≡ timeIn (ageTable (now (basetime .entry)) (now (basebirth .entry))) (ageTable (now (time .entry)) (now (birth .entry))) b ⌝ }
 {
     let i = order::ranks::row_of(basebirth, baseidx, b);
     if i < basetime.len() {

@@ -33,6 +33,30 @@ pub fn append(a: &[u32], b: &[u32], out: &mut [u32])
     }
 }
 
+// Cell i of a column of populations and a second one after it.
+fn joined_population(a: &[u16], b: &[u16], i: usize) -> u16
+    requires { ⌜ i < length (now a) + length (now b) ⌝ }
+    ensures { λ r. ⌜ r ≡ at (now (a .entry) ++ now (b .entry)) i ⌝ }
+{
+    if i < a.len() {
+        return a[i];
+    }
+    b[i - a.len()]
+}
+
+// As append, for populations.
+pub fn append_populations(a: &[u16], b: &[u16], out: &mut [u16])
+    requires { ⌜ length (now a) + length (now b) ≤ length (now out) ⌝ }
+    ensures { λ _. ⌜ now (out .exit) ≡ put (now (a .entry) ++ now (b .entry)) (now (out .entry)) ⌝ }
+{
+    let n = a.len() + b.len();
+    let mut i = 0;
+    while i < n {
+        out[i] = joined_population(a, b, i);
+        i += 1;
+    }
+}
+
 // Cell i of a column of bytes and a second one after it.
 fn joined_byte(a: &[u8], b: &[u8], i: usize) -> u8
     requires { ⌜ i < length (now a) + length (now b) ⌝ }

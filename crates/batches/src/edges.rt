@@ -4,7 +4,7 @@ ghost use mathlib.Core.Bool.{not};
 ghost use Prim.Native.Nat.{_<_, _≤_};
 ghost use lib.ListN.{length};
 ghost use Rattle.meaning.specs.Words.{or, mem, lowest};
-ghost use Rattle.meaning.specs.Rows.{nodeTable, edgeTable};
+ghost use Rattle.meaning.specs.Rows.{ageTable, edgeTable};
 ghost use Rattle.meaning.specs.Answer.{limits};
 ghost use Rattle.meaning.specs.Check.{edgeShared};
 ghost use Rattle.meaning.specs.Join.{batchEdge};
@@ -46,8 +46,8 @@ fn batch_edge_at(
     ensures { λ r. ⌜
         r
         ≡ batchEdge len
-        (nodeTable (now (basetime .entry)) (now (basebirth .entry)))
-        (nodeTable (now (time .entry)) (now (birth .entry)))
+        (ageTable (now (basetime .entry)) (now (basebirth .entry)))
+        (ageTable (now (time .entry)) (now (birth .entry)))
         (edgeTable (now (left .entry)) (now (right .entry)) (now (parent .entry)) (now (child .entry))) i ⌝ }
 {
     if !order::ranks::known(birth, idx, child[i]) {
@@ -87,8 +87,8 @@ pub fn first_batch_edge(
     ensures { λ r. ⌜
         r
         ≡ lowest (batchEdge len
-        (nodeTable (now (basetime .entry)) (now (basebirth .entry)))
-        (nodeTable (now (time .entry)) (now (birth .entry)))
+        (ageTable (now (basetime .entry)) (now (basebirth .entry)))
+        (ageTable (now (time .entry)) (now (birth .entry)))
         (edgeTable (now (left .entry)) (now (right .entry)) (now (parent .entry)) (now (child .entry)))) (length (now (left .entry))) ⌝ }
 {
     let mut i = 0;

@@ -12,6 +12,7 @@ ghost use Rattle.batches.specs.Lengths.{batchRagged, batchLarge};
 pub fn ragged_batch(
     time: usize,
     birth: usize,
+    population: usize,
     left: usize,
     right: usize,
     parent: usize,
@@ -20,9 +21,12 @@ pub fn ragged_batch(
     node: usize,
     derived: usize,
 ) -> usize
-    ensures { λ r. ⌜ r ≡ batchRagged time birth left right parent child site node derived ⌝ }
+    ensures { λ r. ⌜ r ≡ batchRagged time birth population left right parent child site node derived ⌝ }
 {
     if birth != time {
+        return NodeTable::NUMBER;
+    }
+    if population != time {
         return NodeTable::NUMBER;
     }
     if right != left {

@@ -2,7 +2,7 @@
 ghost use mathlib.Core.Path.{_≡_};
 ghost use mathlib.Core.List.{[]};
 ghost use lib.ListN.{length};
-ghost use Rattle.meaning.specs.Rows.{nodeTable, edgeTable, mutationTable};
+ghost use Rattle.meaning.specs.Rows.{ageTable, edgeTable, mutationTable};
 ghost use Rattle.meaning.specs.Answer.{done, limits, checkedOf};
 ghost use Rattle.meaning.specs.Join.{batchTables, batchRules};
 ghost use Rattle.rules.specs.Lengths.{refuseTable};
@@ -19,6 +19,7 @@ pub fn lengths_checked(
     basemutations: usize,
     time: usize,
     birth: usize,
+    population: usize,
     left: usize,
     right: usize,
     parent: usize,
@@ -27,11 +28,12 @@ pub fn lengths_checked(
     node: usize,
     derived: usize,
 ) -> Checked
-    ensures { λ r. ⌜ checkedOf r ≡ refuseTable 20 (batchRagged time birth left right parent child site node derived) (refuseTable 21 (batchLarge limits basenodes baseedges basemutations time left site) done) ⌝ }
+    ensures { λ r. ⌜ checkedOf r ≡ refuseTable 20 (batchRagged time birth population left right parent child site node derived) (refuseTable 21 (batchLarge limits basenodes baseedges basemutations time left site) done) ⌝ }
 {
     let t = crate::lengths::ragged_batch(
         time,
         birth,
+        population,
         left,
         right,
         parent,
@@ -76,7 +78,7 @@ pub fn rules_checked(
         BatchAsked (readBase (now basetime) (now basebirth)
         (edgeTable (now baseleft) (now baseright) (now baseparent) (now basechild)) (now position))
         (batchTables
-        (nodeTable (now time) (now birth))
+        (ageTable (now time) (now birth))
         (edgeTable (now left) (now right) (now parent) (now child))
         (mutationTable (now site) (now node) (now derived))) × Ranked (now basebirth) (now «base_by_birth») × (length (now «by_birth») ≡ length (now birth)) ⌝ }
     ensures { λ r. ⌜
@@ -84,7 +86,7 @@ pub fn rules_checked(
         ≡ batchRules len (readBase (now (basetime .entry)) (now (basebirth .entry))
         (edgeTable (now (baseleft .entry)) (now (baseright .entry)) (now (baseparent .entry)) (now (basechild .entry))) (now (position .entry)))
         (batchTables
-        (nodeTable (now (time .entry)) (now (birth .entry)))
+        (ageTable (now (time .entry)) (now (birth .entry)))
         (edgeTable (now (left .entry)) (now (right .entry)) (now (parent .entry)) (now (child .entry)))
         (mutationTable (now (site .entry)) (now (node .entry)) (now (derived .entry)))) done) × Ranked (now (birth .entry)) (now («by_birth» .exit)) ⌝ }
 {

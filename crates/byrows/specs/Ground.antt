@@ -8,7 +8,7 @@ use Prim.Native.Nat.{ℕ, zero, suc, _<_, _≤_}
 use native.Mathlib.Omega.{arith}
 use lib.ListN.{length}
 use Rattle.meaning.specs.Words.{at, mem, rows, indexOf}
-use Rattle.meaning.specs.Rows.{NodeColumns, EdgeColumns, Tables, Edge, Record, births, nodesOf, edgesOf, recordOf, timeOf}
+use Rattle.meaning.specs.Rows.{NodeColumns, EdgeColumns, Tables, Edge, Record, births, nodeAt, nodesOf, edgesOf, recordOf, nodeOf, timeOf}
 use Rattle.meaning.specs.Forest.{Par, Ages, parentIn, reached, stands, low, drawn}
 use Rattle.meaning.specs.Answer.{Limits}
 use Rattle.meaning.specs.Clean.{standsAt, forestAt, lowAt}
@@ -18,7 +18,7 @@ use Rattle.laws.specs.Members.{mem-here, mem-there, mem-cases, mem-nil, at-mem,
 use Rattle.laws.specs.Facts.{In, Distinct, All, done, also, CleanOk}
 use Rattle.bridge.specs.Parents.{parentRow}
 use Rattle.accepted.specs.Checked.{Sound, Listed, Apart}
-use Rattle.accepted.specs.Columns.{all-rows, distinct-of, same-row, births-of, time-of}
+use Rattle.accepted.specs.Columns.{all-rows, distinct-of, same-row, births-of, node-of, time-of}
 use Rattle.accepted.specs.Records.{Young, clean-ok-of}
 use Rattle.bridge.specs.Rename.{mapOption, Renamed}
 use Rattle.bridge.specs.Columns.{Within, renamed}
@@ -109,6 +109,11 @@ module _ (m : Limits) (L : ℕ) (T : Tables) (S : List ℕ) (g : Ground m L T S)
 
   pub row-fish : (u : ℕ) → u < n → mem (at birth u) (births (R .nodes)) ≡ true
   row-fish u l = ap (mem (at birth u)) births-are ∙ at-mem birth u l
+
+  -- the node of a row's fish is the row's
+  pub row-node : (u : ℕ) → u < n → nodeOf (R .nodes) (at birth u) ≡ nodeAt (T .nodes) u
+  unfolding recordOf
+  row-node u l = node-of (T .nodes) (g .sound .shape .births) (g .sound .tree .once) u (omega (arith, g .sound .shape .births))
 
   -- the time of a row's fish is the row's
   pub row-time : (u : ℕ) → u < n → timeOf (R .nodes) (at birth u) ≡ at (T .nodes .time) u

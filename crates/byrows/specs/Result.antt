@@ -8,7 +8,7 @@ use native.Mathlib.Omega.{arith}
 use lib.Dec.{eqb}
 use lib.ListN.{length}
 use Rattle.meaning.specs.Words.{at, mem, rows, indexOf}
-use Rattle.meaning.specs.Rows.{NodeColumns, EdgeColumns, SiteColumns, MutationColumns, Tables, Node, Edge, Site, Mutation, Record, births, nodeOf, timeOf, posOf, sitesOf, mutsOf, recordOf, tablesOf}
+use Rattle.meaning.specs.Rows.{NodeColumns, EdgeColumns, SiteColumns, MutationColumns, Tables, Node, Edge, Site, Mutation, Record, births, nodeAt, nodeOf, timeOf, posOf, sitesOf, mutsOf, recordOf, tablesOf}
 use Rattle.meaning.specs.Forest.{stands}
 use Rattle.meaning.specs.Answer.{Limits}
 use Rattle.meaning.specs.Clean.{moved, lowAt, kept, clean, cleaned, rowIn, no-row, nodeMap}
@@ -23,7 +23,7 @@ use Rattle.accepted.specs.Columns.{all-rows, pos-of}
 use Rattle.bridge.specs.Rename.{mapOption, eqb-names}
 use Rattle.byrows.specs.Named.{mem-names}
 use Rattle.byrows.specs.Rows.{allRows, sampleRows, lowRow}
-use Rattle.byrows.specs.Ground.{Ground, names, rows-inside, once, samples-inside, row-time, low-row, low-inside, clean-ok}
+use Rattle.byrows.specs.Ground.{Ground, names, rows-inside, once, samples-inside, row-node, low-row, low-inside, clean-ok}
 use Rattle.byrows.specs.Kept.{nameEdge, Others, EdgeRows, kept-are, edges-are}
 
 -- ---- under a map
@@ -70,7 +70,7 @@ moved-inside n pos G h (m ∷ l) (also p x) = go (G (pos (m .site)) (m .node)) r
 unfoldable pub tablesBy : Tables → List ℕ → List Edge → List Mutation → Tables
 unfolding indexOf
 tablesBy T K F M = record {
-  nodes = record { time = map (at (T .nodes .time)) K; birth = map (at (T .nodes .birth)) K };
+  nodes = record { time = map (at (T .nodes .time)) K; birth = map (at (T .nodes .birth)) K; population = map (at (T .nodes .population)) K };
   edges = record {
     left = map (λ (e : Edge). e .left) F;
     right = map (λ (e : Edge). e .right) F;
@@ -147,13 +147,14 @@ module _ (m : Limits) (L : ℕ) (T : Tables) (S : List ℕ) (g : Ground m L T S)
     place : (u : ℕ) → u < n → indexOf (f u) (births (clean stands S R .nodes)) ≡ indexOf u K
     place u l = ap (indexOf (f u)) born ∙ index-names n f (once m L T S g) u l K kept-inside
 
-    times : map (λ (z : Node). z .time) (clean stands S R .nodes) ≡ map (at (T .nodes .time)) K
-    unfolding clean timeOf
-    times =
-        map-map (λ (z : Node). z .time) (nodeOf (R .nodes)) (kept stands R S)
-        ∙ ap (map (timeOf (R .nodes))) (sym (kept-are m L T S g OR o))
-        ∙ map-map (timeOf (R .nodes)) f K
-        ∙ map-all (λ u. timeOf (R .nodes) (f u)) (at (T .nodes .time)) (λ u l. row-time m L T S g u l) kept-inside
+    -- a node row is copied whole, so each of its columns is
+    node-field : (h : Node → ℕ) → map h (clean stands S R .nodes) ≡ map (λ u. h (nodeAt (T .nodes) u)) K
+    unfolding clean
+    node-field h =
+        map-map h (nodeOf (R .nodes)) (kept stands R S)
+        ∙ ap (map (λ b. h (nodeOf (R .nodes) b))) (sym (kept-are m L T S g OR o))
+        ∙ map-map (λ b. h (nodeOf (R .nodes) b)) f K
+        ∙ map-all (λ u. h (nodeOf (R .nodes) (f u))) (λ u. h (nodeAt (T .nodes) u)) (λ u l. ap h (row-node m L T S g u l)) kept-inside
 
     edges-named : clean stands S R .edges ≡ map (nameEdge f) F
     unfolding clean recordOf
@@ -180,7 +181,7 @@ module _ (m : Limits) (L : ℕ) (T : Tables) (S : List ℕ) (g : Ground m L T S)
     pub cleaned-by-rows : cleaned stands L T S ≡ tablesBy T K F (movedRows T SR)
     unfolding cleaned tablesOf tablesBy
     cleaned-by-rows = λ i. record {
-      nodes = record { time = times i; birth = born i };
+      nodes = record { time = node-field (λ (z : Node). z .time) i; birth = born i; population = node-field (λ (z : Node). z .population) i };
       edges = record {
         left = edge-field (λ (e : Edge). e .left) (λ (e : Edge). e .left) (λ e p. refl) i;
         right = edge-field (λ (e : Edge). e .right) (λ (e : Edge). e .right) (λ e p. refl) i;

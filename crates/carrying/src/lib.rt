@@ -4,7 +4,7 @@ ghost use mathlib.Core.Path.{_≡_};
 ghost use Prim.Native.Nat.{ℕ, _<_, _≤_};
 ghost use lib.ListN.{length};
 ghost use Rattle.meaning.specs.Words.{at};
-ghost use Rattle.meaning.specs.Rows.{nodeTable, edgeTable, siteTable, mutationTable, tables};
+ghost use Rattle.meaning.specs.Rows.{ageTable, edgeTable, siteTable, mutationTable, tables};
 ghost use Rattle.carrying.specs.Spans.{Spans, firstBy};
 ghost use Rattle.carrying.specs.Cells.{ColumnAt};
 ghost use Rattle.carrying.specs.Work.{indexBy, Prepared, workOf, Kept};
@@ -82,14 +82,14 @@ pub fn tell_site(
     requires { ⌜
         Prepared len
         (tables
-        (nodeTable (now time) (now birth))
+        (ageTable (now time) (now birth))
         (edgeTable (now left) (now right) (now parent) (now child))
         (siteTable (now position) (now ancestral))
         (mutationTable (now site) (now node) (now derived))) (now «by_child»)
         (indexBy (now ends) (now «edge_first») (now «edge_past») (now «mut_first») (now «mut_past»)) ×
         Kept
         (tables
-        (nodeTable (now time) (now birth))
+        (ageTable (now time) (now birth))
         (edgeTable (now left) (now right) (now parent) (now child))
         (siteTable (now position) (now ancestral))
         (mutationTable (now site) (now node) (now derived))) last t
@@ -102,13 +102,13 @@ pub fn tell_site(
     ensures { λ r. ⌜
         ColumnAt
         (tables
-        (nodeTable (now (time .entry)) (now (birth .entry)))
+        (ageTable (now (time .entry)) (now (birth .entry)))
         (edgeTable (now (left .entry)) (now (right .entry)) (now (parent .entry)) (now (child .entry)))
         (siteTable (now (position .entry)) (now (ancestral .entry)))
         (mutationTable (now (site .entry)) (now (node .entry)) (now (derived .entry)))) i k (now (rows .entry)) (now (states .exit)) (now (flags .exit)) ×
         Kept
         (tables
-        (nodeTable (now (time .entry)) (now (birth .entry)))
+        (ageTable (now (time .entry)) (now (birth .entry)))
         (edgeTable (now (left .entry)) (now (right .entry)) (now (parent .entry)) (now (child .entry)))
         (siteTable (now (position .entry)) (now (ancestral .entry)))
         (mutationTable (now (site .entry)) (now (node .entry)) (now (derived .entry)))) (at (now (position .entry)) i) r

@@ -3,10 +3,12 @@
 ghost use Prim.Native.Nat.{_<_, _≤_};
 use libc::STDIN_FILENO;
 
-// What every lent cell of words holds before a call, and every one of bytes.
+// What every lent cell of words holds before a call, every one of bytes and every one of populations.
 pub const PATTERN: u32 = 4042322160;
 
 pub const MARK: u8 = 170;
+
+pub const STOCK: u16 = 43605;
 
 // No position in a case is past this one.
 const FAR: usize = 1000000;
@@ -212,4 +214,44 @@ pub fn holds_states(a: &[u8], due: &[u32]) -> bool {
         i += 1;
     }
     true
+}
+
+// The same of a column of populations.
+pub fn holds_stocks(a: &[u16], due: &[u32]) -> bool {
+    if a.len() < due.len() {
+        return false;
+    }
+    let mut i = 0;
+    while i < a.len() {
+        if broad(a[i]) != cell(due, i, broad(STOCK)) {
+            return false;
+        }
+        i += 1;
+    }
+    true
+}
+
+// A population as a word.
+pub fn broad(v: u16) -> u32 {
+    v as u32
+}
+
+fn set_stock(p: &mut [u16], i: usize, v: u32) {
+    if i < p.len() {
+        p[i] = (v % 65536) as u16;
+    }
+}
+
+// Puts a column's words into the first cells of the populations, as the calls take them.
+pub fn narrow(column: &[u32], p: &mut [u16]) {
+    let mut i = 0;
+    while i < column.len() {
+        set_stock(p, i, column[i]);
+        i += 1;
+    }
+}
+
+// The first populations.
+pub fn front_stocks(p: &[u16], n: usize) -> &[u16] {
+    if n <= p.len() { &p[..n] } else { p }
 }

@@ -45,6 +45,7 @@ fn put_heads(w: &mut [u32], s: &mut [u8], z: Sizes) {
     put_lengths(w, s, z);
     block::put(w, s, Column::HEADS, Column::SAMPLES, z.samples);
     block::put(w, s, Column::HEADS, Column::LENGTH, LENGTH);
+    block::put(w, s, Column::HEADS, Column::POPULATION, z.nodes);
 }
 
 // Edge i of a line, where node p's parent is node p + 1: four edges of each pair, the last pair takes what is left.
@@ -89,11 +90,12 @@ fn put_edges(w: &mut [u32], s: &mut [u8], one_child: bool, last: u32, n: u32) {
 }
 
 // The nodes, with times and births at both ends of u32: the oldest has the largest time, row 0 the largest birth number, row i the
-// birth number i - 1. The samples are the first nodes.
+// birth number i - 1. The samples are the first nodes. The populations go up by 257 from 65535, and so over the top of u16.
 fn put_nodes(w: &mut [u32], s: &mut [u8], n: u32, samples: u32) {
     block::fill(w, s, Column::TIME, n, 0, 1);
     block::put(w, s, Column::TIME, less(n, 1), 4294967295);
     block::fill(w, s, Column::BIRTH, n, 4294967295, 1);
+    block::fill(w, s, Column::POPULATION, n, 65535, 257);
     block::fill(w, s, Column::SAMPLES, samples, 4294967295, 1);
 }
 

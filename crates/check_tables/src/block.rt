@@ -1,9 +1,10 @@
 // Two lent blocks that hold all columns of the five input tables: one of words, one of bytes for the states. Each column has one cell
-// more than its table may have rows. The first cells of the words hold the columns' lengths, by their numbers, and then L.
+// more than its table may have rows. The first cells of the words hold the columns' lengths, by their numbers, with L among them.
+// The populations stand as words, and are put into cells of their own width before a call.
 ghost use Prim.Native.Nat.{_≤_};
 
 // The cells of one column of each table.
-const NODES: usize = meaning::NodeTable::MOST + 1;
+pub const NODES: usize = meaning::NodeTable::MOST + 1;
 
 const EDGES: usize = meaning::EdgeTable::MOST + 1;
 
@@ -39,7 +40,9 @@ impl Words {
 
     pub const SAMPLES: usize = Words::NODE + MUTATIONS;
 
-    pub const CELLS: usize = Words::SAMPLES + SAMPLES;
+    pub const POPULATION: usize = Words::SAMPLES + SAMPLES;
+
+    pub const CELLS: usize = Words::POPULATION + NODES;
 }
 
 // Where each column of states starts, and how many cells the block has.
@@ -90,6 +93,8 @@ impl Column {
     // The head that holds L.
     pub const LENGTH: u32 = 12;
 
+    pub const POPULATION: u32 = 13;
+
     // No column: what is put there is lost.
     pub const NONE: u32 = 99;
 }
@@ -130,7 +135,7 @@ fn set_state(s: &mut [u8], i: usize, v: u32) {
 
 // Where a column starts in its block; past both where there is no such column.
 fn start(column: u32) -> usize
-    ensures { λ r. ⌜ r ≤ 21274 ⌝ }
+    ensures { λ r. ⌜ r ≤ 22299 ⌝ }
 {
     match column {
         0 => Words::TIME,
@@ -146,6 +151,7 @@ fn start(column: u32) -> usize
         10 => States::DERIVED,
         11 => Words::SAMPLES,
         12 => 0,
+        13 => Words::POPULATION,
         _ => Words::CELLS,
     }
 }
@@ -213,4 +219,25 @@ pub fn column_states(s: &[u8], column: u32, n: u32) -> &[u8] {
         return &s[..0];
     }
     &s[a..e]
+}
+
+// Sets a population, if there is such a cell.
+fn set_population(p: &mut [u16], i: usize, v: u32) {
+    if i < p.len() {
+        p[i] = (v % 65536) as u16;
+    }
+}
+
+// Puts a column's words into the first cells of the populations.
+pub fn narrow(column: &[u32], p: &mut [u16]) {
+    let mut i = 0;
+    while i < column.len() {
+        set_population(p, i, column[i]);
+        i += 1;
+    }
+}
+
+// The first n populations; all where there are not so many.
+pub fn front(p: &[u16], n: usize) -> &[u16] {
+    if n <= p.len() { &p[..n] } else { p }
 }

@@ -66,12 +66,13 @@ fn filled(p: Panel) -> Answer {
     }
 }
 
-// The check of the tables of two blocks.
-pub fn check(w: &[u32], s: &[u8]) -> Answer {
+// The check of the tables of two blocks, the populations beside them.
+fn check_columns(w: &[u32], s: &[u8], population: &[u16]) -> Answer {
     checked(checker::check(
         block::get(w, Column::LENGTH as usize),
         block::column_words(w, Column::TIME),
         block::column_words(w, Column::BIRTH),
+        population,
         block::column_words(w, Column::LEFT),
         block::column_words(w, Column::RIGHT),
         block::column_words(w, Column::PARENT),
@@ -89,12 +90,13 @@ pub fn check(w: &[u32], s: &[u8]) -> Answer {
     ))
 }
 
-// The allele of a birth number at a site row, in the tables of two blocks.
-pub fn allele(w: &[u32], s: &[u8], site: u32, birth: u32) -> Answer {
+// The allele call, the populations beside the blocks.
+fn allele_columns(w: &[u32], s: &[u8], population: &[u16], site: u32, birth: u32) -> Answer {
     read(alleles::allele(
         block::get(w, Column::LENGTH as usize),
         block::column_words(w, Column::TIME),
         block::column_words(w, Column::BIRTH),
+        population,
         block::column_words(w, Column::LEFT),
         block::column_words(w, Column::RIGHT),
         block::column_words(w, Column::PARENT),
@@ -113,10 +115,11 @@ pub fn allele(w: &[u32], s: &[u8], site: u32, birth: u32) -> Answer {
     ))
 }
 
-// The panel of a list of site rows and a list of birth numbers, in the tables of two blocks.
-pub fn panel(
+// The panel, the populations beside the blocks.
+fn panel_columns(
     w: &[u32],
     s: &[u8],
+    population: &[u16],
     sites: &[u32],
     fish: &[u32],
     states: &mut [u8],
@@ -126,6 +129,7 @@ pub fn panel(
         block::get(w, Column::LENGTH as usize),
         block::column_words(w, Column::TIME),
         block::column_words(w, Column::BIRTH),
+        population,
         block::column_words(w, Column::LEFT),
         block::column_words(w, Column::RIGHT),
         block::column_words(w, Column::PARENT),
@@ -144,4 +148,43 @@ pub fn panel(
         states,
         flags,
     ))
+}
+
+// The check of the tables of two blocks.
+pub fn check(w: &[u32], s: &[u8]) -> Answer {
+    let stocks = block::column_words(w, Column::POPULATION);
+    let mut p = [0u16; block::NODES];
+    block::narrow(stocks, &mut p);
+    check_columns(w, s, block::front(&p, stocks.len()))
+}
+
+// The allele of a birth number at a site row, in the tables of two blocks.
+pub fn allele(w: &[u32], s: &[u8], site: u32, birth: u32) -> Answer {
+    let stocks = block::column_words(w, Column::POPULATION);
+    let mut p = [0u16; block::NODES];
+    block::narrow(stocks, &mut p);
+    allele_columns(w, s, block::front(&p, stocks.len()), site, birth)
+}
+
+// The panel of a list of site rows and a list of birth numbers, in the tables of two blocks.
+pub fn panel(
+    w: &[u32],
+    s: &[u8],
+    sites: &[u32],
+    fish: &[u32],
+    states: &mut [u8],
+    flags: &mut [u8],
+) -> Answer {
+    let stocks = block::column_words(w, Column::POPULATION);
+    let mut p = [0u16; block::NODES];
+    block::narrow(stocks, &mut p);
+    panel_columns(
+        w,
+        s,
+        block::front(&p, stocks.len()),
+        sites,
+        fish,
+        states,
+        flags,
+    )
 }

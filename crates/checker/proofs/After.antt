@@ -9,7 +9,7 @@ use Rattle.meaning.specs.Words.{lowest}
 use Rattle.meaning.specs.Rows.{NodeColumns, EdgeColumns, Tables}
 use Rattle.meaning.specs.Answer.{Answer, Limits, done, refuse, refuseRow, accepted, refusalOf, checkedOf}
 use Rattle.meaning.specs.declared.Refusal.{Refusal}
-use Rattle.meaning.specs.declared.Refusal.the-variants.{Ragged, TooMany, Length, BirthRepeated, EdgeBroken, EdgeOrder, EdgeShared, SiteBroken, MutationBroken, MutationAbove, SampleUnknown, SampleRepeated, NoRoom, BatchRagged, BatchTooMany, BatchBirth, BatchEdge, BatchShared, BatchMutation, BatchAbove, MarkWrong, BytesEnd, BytesFollow, RowsOver, EdgeWide, MutationWide, NoSite, NoBirth}
+use Rattle.meaning.specs.declared.Refusal.the-variants.{Ragged, TooMany, Length, BirthRepeated, EdgeBroken, EdgeOrder, EdgeShared, SiteBroken, MutationBroken, MutationAbove, SampleUnknown, SampleRepeated, NoRoom, BatchRagged, BatchTooMany, BatchBirth, BatchEdge, BatchShared, BatchMutation, BatchAbove, MarkWrong, BytesEnd, BytesFollow, RowsOver, EdgeWide, MutationWide, Populated, NoSite, NoBirth}
 use Rattle.meaning.specs.declared.Checked.{Checked}
 use Rattle.meaning.specs.declared.Checked.the-variants as checked
 use Rattle.meaning.specs.Check.{shapes, sizes, lengthBroken, treeRules, siteRules, rules, checkThen, sampleRules, checkAllThen}
@@ -121,6 +121,7 @@ refused r = elim r [
   | RowsOver o ↦ refl
   | EdgeWide i ↦ refl
   | MutationWide i ↦ refl
+  | Populated i ↦ refl
   | NoSite ↦ refl
   | NoBirth ↦ refl
 ]

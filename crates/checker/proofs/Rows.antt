@@ -8,7 +8,7 @@ use lib.Dec.{eqb, leb, ltb}
 use lib.ListN.{length}
 use borrow.Author.Tests.{eq-eqb, leb-false, lt-ltb, ltb-true, ltb-false}
 use Rattle.meaning.specs.Words.{or, at}
-use Rattle.meaning.specs.Rows.{EdgeColumns, MutationColumns}
+use Rattle.meaning.specs.Rows.{EdgeColumns, MutationColumns, ageTable}
 use Rattle.meaning.specs.Check.{repeated, edgeBroken, share, edgeShared, notAbove, siteBroken, falls, mutationBroken}
 use Rattle.laws.specs.Bools.{clash, or-no, and-yes}
 use Rattle.laws.specs.Counting.{of-below}
@@ -51,7 +51,7 @@ edge-whole L time E i h =
 
 module _ (L : ℕ) (time : List ℕ) (E : EdgeColumns) (e : EvenEdges E) (h : (i : ℕ) → i < length (E .left) → edgeBroken L time E i ≡ false) where
   -- rule 6: every edge row names node rows that exist
-  pub named : (birth : List ℕ) → length birth ≡ length time → NamedNodes (record { time = time; birth = birth }) E
+  pub named : (birth : List ℕ) → length birth ≡ length time → NamedNodes (ageTable time birth) E
   named birth b = record {
     birth-long = b;
     even = e;

@@ -27,7 +27,7 @@ shapes-sound T rest h =
     let e : _ = T .edges in
     let s : _ = T .sites in
     let u : _ = T .muts in
-    let one : _ = refuse-done (ragged (n .time ∷ n .birth ∷ [])) 1 1 _ refl h in
+    let one : _ = refuse-done (ragged (n .time ∷ n .birth ∷ n .population ∷ [])) 1 1 _ refl h in
     let two : _ = refuse-done (ragged (e .left ∷ e .right ∷ e .parent ∷ e .child ∷ [])) 1 2 _ refl (one .1) in
     let three : _ = refuse-done (ragged (s .position ∷ s .ancestral ∷ [])) 1 3 _ refl (two .1) in
     let four : _ = refuse-done (ragged (u .site ∷ u .node ∷ u .derived ∷ [])) 1 4 rest refl (three .1) in
@@ -35,7 +35,7 @@ shapes-sound T rest h =
     let ends : _ = or-no _ _ (edges .1) in
     let muts : _ = or-no _ _ (sym (ragged-three (u .site) (u .node) (u .derived)) ∙ four .0) in (
       record {
-        birth-long = alike _ _ (sym (ragged-two (n .time) (n .birth)) ∙ one .0);
+        birth-long = alike _ _ (or-no _ _ (sym (ragged-three (n .time) (n .birth) (n .population)) ∙ one .0) .0);
         edges = record { right-long = alike _ _ (edges .0); parent-long = alike _ _ (ends .0); child-long = alike _ _ (ends .1) };
         ancestral-long = alike _ _ (sym (ragged-two (s .position) (s .ancestral)) ∙ three .0);
         node-long = alike _ _ (muts .0);

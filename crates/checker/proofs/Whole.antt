@@ -15,6 +15,7 @@ use Rattle.meaning.specs.declared.Checked.the-variants.{Sound, Refused}
 use Rattle.rules.specs.Lengths.{lengthsOf, raggedTable, largeTable, refuseTable}
 use Rattle.rules.proofs.ByLengths.{shapes-by-lengths, sizes-by-lengths}
 use Rattle.checker.specs.Found.{Shaped, Sized, TreeSound}
+use Rattle.checker.specs.Aged.{aged, rules-aged, shaped-aged, sized-aged}
 use Rattle.checker.proofs.Order.{refuse-yes, refuse-no}
 use Rattle.checker.proofs.After.{Hands, hands, stops, goes-on, was-sound, shapes-after, sizes-after, tree-after, rules-after}
 use Rattle.checker.proofs.Sound.{shapes-sound, sizes-sound, tree-sound}
@@ -41,11 +42,11 @@ module _ (m : Limits) (T : Tables) (s : Checked) (e : checkedOf s ≡ tableAnswe
   lengths-go-on : s ≡ Sound → (rest : Answer) → lengthRules m T rest ≡ rest
   lengths-go-on = goes-on (lengthRules m T) lengths-hand s by-lengths
 
-  pub lengths-found : s ≡ Sound → Shaped T × Sized m T
+  pub lengths-found : s ≡ Sound → Shaped (aged T) × Sized m (aged T)
   lengths-found q =
       let one : _ = shapes-sound T (sizes m T done) (was-sound (lengthRules m T) lengths-hand s by-lengths q) in
       let two : _ = sizes-sound m T done (one .1) in
-      (one .0, two .0)
+      (shaped-aged (one .0), sized-aged (two .0))
 
 -- ---- 3 to 10
 
@@ -78,9 +79,9 @@ module _ (m : Limits) (L : ℕ) (T : Tables) (s : Checked) (e : checkedOf s ≡ 
   unfolding checkThen
   table-refused r q = lengths-stop m T s e r q (rules L T done)
 
-  pub rules-last : s ≡ Sound → (t : Checked) → checkedOf t ≡ rules L T done → checkedOf t ≡ checkThen m L T done
+  pub rules-last : s ≡ Sound → (t : Checked) → checkedOf t ≡ rules L (aged T) done → checkedOf t ≡ checkThen m L T done
   unfolding checkThen
-  rules-last q t f = f ∙ sym (lengths-go-on m T s e q (rules L T done))
+  rules-last q t f = f ∙ rules-aged L T done ∙ sym (lengths-go-on m T s e q (rules L T done))
 
 -- ---- 3 to 12: 3 to 10, then 11 and 12
 
@@ -113,5 +114,5 @@ module _ (m : Limits) (L : ℕ) (T : Tables) (S : List ℕ) (s : Checked) (e : c
     pub samples-many : m .samples < length S → answer 2 5 ≡ check m L T S
     samples-many l = sym (past-lengths ∙ refuse-yes 2 5 sampled (lt-ltb (m .samples) (length S) l))
 
-    pub all-last : length S ≤ m .samples → (u : Checked) → checkedOf u ≡ rules L T (sampleRules (T .nodes .birth) S done) → checkedOf u ≡ check m L T S
-    all-last l u g = g ∙ sym (past-lengths ∙ refuse-no 2 5 sampled (le-ltb (m .samples) (length S) l))
+    pub all-last : length S ≤ m .samples → (u : Checked) → checkedOf u ≡ rules L (aged T) (sampleRules (T .nodes .birth) S done) → checkedOf u ≡ check m L T S
+    all-last l u g = g ∙ rules-aged L T (sampleRules (T .nodes .birth) S done) ∙ sym (past-lengths ∙ refuse-no 2 5 sampled (le-ltb (m .samples) (length S) l))

@@ -14,7 +14,7 @@ use Rattle.order.specs.Ranks.{Ranked}
 use Rattle.rules.specs.Asked.{EvenEdges}
 use Rattle.rules.specs.ByChild.{ByChild}
 
--- 1: the columns of each table are equally long
+-- 1: the columns of each table are equally long; no later rule looks at the populations
 pub record Shaped (T : Tables) : Type 0 where
   pub birth-long : length (T .nodes .birth) ≡ length (T .nodes .time)
   pub edges : EvenEdges (T .edges)

@@ -2,7 +2,7 @@
 ghost use mathlib.Core.Path.{_≡_};
 ghost use Prim.Native.Nat.{_≤_};
 ghost use lib.ListN.{length};
-ghost use Rattle.meaning.specs.Rows.{nodeTable, edgeTable, siteTable, mutationTable, tables};
+ghost use Rattle.meaning.specs.Rows.{ageTable, edgeTable, siteTable, mutationTable, tables};
 ghost use Rattle.meaning.specs.Answer.{done, limits, checkedOf};
 ghost use Rattle.meaning.specs.Words.{lowest};
 ghost use Rattle.meaning.specs.Check.{treeRules, siteRules, sampleRules, repeated};
@@ -19,6 +19,7 @@ use meaning::SampleTable;
 pub fn lengths_checked(
     time: usize,
     birth: usize,
+    population: usize,
     left: usize,
     right: usize,
     parent: usize,
@@ -29,11 +30,12 @@ pub fn lengths_checked(
     node: usize,
     derived: usize,
 ) -> Checked
-    ensures { λ r. ⌜ checkedOf r ≡ refuseTable 1 (raggedTable (record { time = time; birth = birth; left = left; right = right; parent = parent; child = child; position = position; ancestral = ancestral; site = site; node = node; derived = derived })) (refuseTable 2 (largeTable limits time left position site) done) ⌝ }
+    ensures { λ r. ⌜ checkedOf r ≡ refuseTable 1 (raggedTable (record { time = time; birth = birth; population = population; left = left; right = right; parent = parent; child = child; position = position; ancestral = ancestral; site = site; node = node; derived = derived })) (refuseTable 2 (largeTable limits time left position site) done) ⌝ }
 {
     let t = rules::lengths::ragged_table(
         time,
         birth,
+        population,
         left,
         right,
         parent,
@@ -74,7 +76,7 @@ pub fn tree_checked(
     ensures { λ r. ⌜
         (checkedOf r
         ≡ treeRules len
-        (nodeTable (now (time .entry)) (now (birth .entry)))
+        (ageTable (now (time .entry)) (now (birth .entry)))
         (edgeTable (now (left .entry)) (now (right .entry)) (now (parent .entry)) (now (child .entry))) done) × Ordered r (now (birth .entry))
         (edgeTable (now (left .entry)) (now (right .entry)) (now (parent .entry)) (now (child .entry))) (now («by_child» .exit)) (now («by_birth» .exit)) ⌝ }
 {
@@ -116,23 +118,23 @@ pub fn sites_checked(
     requires { ⌜
         Shaped
         (tables
-        (nodeTable (now time) (now birth))
+        (ageTable (now time) (now birth))
         (edgeTable (now left) (now right) (now parent) (now child))
         (siteTable (now position) (now ancestral))
         (mutationTable (now site) (now node) (now derived))) × Sized limits
         (tables
-        (nodeTable (now time) (now birth))
+        (ageTable (now time) (now birth))
         (edgeTable (now left) (now right) (now parent) (now child))
         (siteTable (now position) (now ancestral))
         (mutationTable (now site) (now node) (now derived))) × TreeSound len
-        (nodeTable (now time) (now birth))
+        (ageTable (now time) (now birth))
         (edgeTable (now left) (now right) (now parent) (now child)) × ByChild
         (edgeTable (now left) (now right) (now parent) (now child)) (now «by_child») ⌝ }
     ensures { λ r. ⌜
         checkedOf r
         ≡ siteRules len
         (tables
-        (nodeTable (now (time .entry)) (now (birth .entry)))
+        (ageTable (now (time .entry)) (now (birth .entry)))
         (edgeTable (now (left .entry)) (now (right .entry)) (now (parent .entry)) (now (child .entry)))
         (siteTable (now (position .entry)) (now (ancestral .entry)))
         (mutationTable (now (site .entry)) (now (node .entry)) (now (derived .entry)))) done ⌝ }

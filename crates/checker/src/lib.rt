@@ -2,7 +2,7 @@
 ghost use mathlib.Core.Path.{_≡_};
 ghost use Prim.Native.Nat.{_≤_};
 ghost use lib.ListN.{length, take};
-ghost use Rattle.meaning.specs.Rows.{nodeTable, edgeTable, siteTable, mutationTable, tables};
+ghost use Rattle.meaning.specs.Rows.{ageTable, nodeTable, edgeTable, siteTable, mutationTable, tables};
 ghost use Rattle.meaning.specs.Answer.{done, limits, checkedOf};
 ghost use Rattle.meaning.specs.Check.{rules, checkThen, sampleRules, check};
 ghost use Rattle.checker.specs.Found.{Shaped, Sized, Ordered};
@@ -35,12 +35,12 @@ fn rules_checked(
     requires { ⌜
         Shaped
         (tables
-        (nodeTable (now time) (now birth))
+        (ageTable (now time) (now birth))
         (edgeTable (now left) (now right) (now parent) (now child))
         (siteTable (now position) (now ancestral))
         (mutationTable (now site) (now node) (now derived))) × Sized limits
         (tables
-        (nodeTable (now time) (now birth))
+        (ageTable (now time) (now birth))
         (edgeTable (now left) (now right) (now parent) (now child))
         (siteTable (now position) (now ancestral))
         (mutationTable (now site) (now node) (now derived))) × (length (now «by_child») ≡ 4096) × (length (now «by_birth») ≡ 1024) ⌝ }
@@ -48,7 +48,7 @@ fn rules_checked(
         (checkedOf r
         ≡ rules len
         (tables
-        (nodeTable (now (time .entry)) (now (birth .entry)))
+        (ageTable (now (time .entry)) (now (birth .entry)))
         (edgeTable (now (left .entry)) (now (right .entry)) (now (parent .entry)) (now (child .entry)))
         (siteTable (now (position .entry)) (now (ancestral .entry)))
         (mutationTable (now (site .entry)) (now (node .entry)) (now (derived .entry)))) done) × Ordered r (now (birth .entry))
@@ -95,6 +95,7 @@ pub fn check_lent(
     len: u32,
     time: &[u32],
     birth: &[u32],
+    population: &[u16],
     left: &[u32],
     right: &[u32],
     parent: &[u32],
@@ -112,7 +113,7 @@ pub fn check_lent(
         (checkedOf r
         ≡ checkThen limits len
         (tables
-        (nodeTable (now (time .entry)) (now (birth .entry)))
+        (nodeTable (now (time .entry)) (now (birth .entry)) (now (population .entry)))
         (edgeTable (now (left .entry)) (now (right .entry)) (now (parent .entry)) (now (child .entry)))
         (siteTable (now (position .entry)) (now (ancestral .entry)))
         (mutationTable (now (site .entry)) (now (node .entry)) (now (derived .entry)))) done) × Ordered r (now (birth .entry))
@@ -121,6 +122,7 @@ pub fn check_lent(
     let s = groups::lengths_checked(
         time.len(),
         birth.len(),
+        population.len(),
         left.len(),
         right.len(),
         parent.len(),
@@ -157,6 +159,7 @@ pub fn check_tables(
     len: u32,
     time: &[u32],
     birth: &[u32],
+    population: &[u16],
     left: &[u32],
     right: &[u32],
     parent: &[u32],
@@ -171,7 +174,7 @@ pub fn check_tables(
         checkedOf r
         ≡ checkThen limits len
         (tables
-        (nodeTable (now (time .entry)) (now (birth .entry)))
+        (nodeTable (now (time .entry)) (now (birth .entry)) (now (population .entry)))
         (edgeTable (now (left .entry)) (now (right .entry)) (now (parent .entry)) (now (child .entry)))
         (siteTable (now (position .entry)) (now (ancestral .entry)))
         (mutationTable (now (site .entry)) (now (node .entry)) (now (derived .entry)))) done ⌝ }
@@ -182,6 +185,7 @@ pub fn check_tables(
         len,
         time,
         birth,
+        population,
         left,
         right,
         parent,
@@ -217,12 +221,12 @@ fn all_rules_checked(
     requires { ⌜
         Shaped
         (tables
-        (nodeTable (now time) (now birth))
+        (ageTable (now time) (now birth))
         (edgeTable (now left) (now right) (now parent) (now child))
         (siteTable (now position) (now ancestral))
         (mutationTable (now site) (now node) (now derived))) × Sized limits
         (tables
-        (nodeTable (now time) (now birth))
+        (ageTable (now time) (now birth))
         (edgeTable (now left) (now right) (now parent) (now child))
         (siteTable (now position) (now ancestral))
         (mutationTable (now site) (now node) (now derived))) × (length (now samples) ≤ limits .samples) × (length (now «by_child») ≡ 4096) × (length (now «by_birth») ≡ 1024) ⌝ }
@@ -230,7 +234,7 @@ fn all_rules_checked(
         (checkedOf r
         ≡ rules len
         (tables
-        (nodeTable (now (time .entry)) (now (birth .entry)))
+        (ageTable (now (time .entry)) (now (birth .entry)))
         (edgeTable (now (left .entry)) (now (right .entry)) (now (parent .entry)) (now (child .entry)))
         (siteTable (now (position .entry)) (now (ancestral .entry)))
         (mutationTable (now (site .entry)) (now (node .entry)) (now (derived .entry)))) (sampleRules (now (birth .entry)) (now (samples .entry)) done)) × Ordered r (now (birth .entry))
@@ -264,6 +268,7 @@ pub fn check_all_lent(
     len: u32,
     time: &[u32],
     birth: &[u32],
+    population: &[u16],
     left: &[u32],
     right: &[u32],
     parent: &[u32],
@@ -282,7 +287,7 @@ pub fn check_all_lent(
         (checkedOf r
         ≡ check limits len
         (tables
-        (nodeTable (now (time .entry)) (now (birth .entry)))
+        (nodeTable (now (time .entry)) (now (birth .entry)) (now (population .entry)))
         (edgeTable (now (left .entry)) (now (right .entry)) (now (parent .entry)) (now (child .entry)))
         (siteTable (now (position .entry)) (now (ancestral .entry)))
         (mutationTable (now (site .entry)) (now (node .entry)) (now (derived .entry)))) (now (samples .entry))) × Ordered r (now (birth .entry))
@@ -291,6 +296,7 @@ pub fn check_all_lent(
     let s = groups::lengths_checked(
         time.len(),
         birth.len(),
+        population.len(),
         left.len(),
         right.len(),
         parent.len(),
@@ -331,6 +337,7 @@ pub fn check(
     len: u32,
     time: &[u32],
     birth: &[u32],
+    population: &[u16],
     left: &[u32],
     right: &[u32],
     parent: &[u32],
@@ -346,7 +353,7 @@ pub fn check(
         checkedOf r
         ≡ check limits len
         (tables
-        (nodeTable (now (time .entry)) (now (birth .entry)))
+        (nodeTable (now (time .entry)) (now (birth .entry)) (now (population .entry)))
         (edgeTable (now (left .entry)) (now (right .entry)) (now (parent .entry)) (now (child .entry)))
         (siteTable (now (position .entry)) (now (ancestral .entry)))
         (mutationTable (now (site .entry)) (now (node .entry)) (now (derived .entry)))) (now (samples .entry)) ⌝ }
@@ -357,6 +364,7 @@ pub fn check(
         len,
         time,
         birth,
+        population,
         left,
         right,
         parent,

@@ -13,15 +13,16 @@ const SITES: usize = meaning::SiteTable::MOST + 2;
 const MUTATIONS: usize = meaning::MutationTable::MOST + 2;
 
 // Where the parts of a case's head start: L, the answer, the lent lengths, then start and length of each input column and of each due.
+// The population is the last column but one of each, and a list or the node map the last.
 const LENGTH: usize = 0;
 
 const ANSWER: usize = 1;
 
 const LENT: usize = 7;
 
-const GIVEN: usize = 19;
+const GIVEN: usize = 20;
 
-const DUE: usize = 43;
+const DUE: usize = 46;
 
 // What a call answered, by 01's numbers.
 struct Seen {
@@ -122,12 +123,20 @@ fn same_states(w: &[u32], at: usize, a: &[u8]) -> bool
     cases::holds_states(a, column(w, at))
 }
 
-// The cleaner on the given columns, with the lent length of each column.
+fn same_stocks(w: &[u32], at: usize, a: &[u16]) -> bool
+    requires { ⌜ at < 1000 ⌝ }
+{
+    cases::holds_stocks(a, column(w, at))
+}
+
+// The cleaner on the given columns and populations, with the lent length of each column but that of the populations.
 fn clean_lent(
     w: &[u32],
     bytes: &[u8],
+    population: &[u16],
     out_time: &mut [u32],
     out_birth: &mut [u32],
+    out_population: &mut [u16],
     out_left: &mut [u32],
     out_right: &mut [u32],
     out_parent: &mut [u32],
@@ -150,11 +159,12 @@ fn clean_lent(
     let site = cases::fit(w, LENT + 8, out_site.len());
     let node = cases::fit(w, LENT + 9, out_node.len());
     let derived = cases::fit(w, LENT + 10, out_derived.len());
-    let map = cases::fit(w, LENT + 11, out_map.len());
+    let map = cases::fit(w, LENT + 12, out_map.len());
     answered(cleaner::clean(
         cases::get(w, LENGTH),
         column(w, GIVEN + 0),
         column(w, GIVEN + 2),
+        population,
         column(w, GIVEN + 4),
         column(w, GIVEN + 6),
         column(w, GIVEN + 8),
@@ -164,9 +174,10 @@ fn clean_lent(
         column(w, GIVEN + 16),
         column(w, GIVEN + 18),
         states(bytes, cases::get(w, GIVEN + 20), cases::get(w, GIVEN + 21)),
-        column(w, GIVEN + 22),
+        column(w, GIVEN + 24),
         &mut out_time[..time],
         &mut out_birth[..birth],
+        out_population,
         &mut out_left[..left],
         &mut out_right[..right],
         &mut out_parent[..parent],
@@ -180,15 +191,60 @@ fn clean_lent(
     ))
 }
 
+// The same with the lent length of the populations' column too, and the given populations in cells of their width.
+fn clean_stocks(
+    w: &[u32],
+    bytes: &[u8],
+    out_time: &mut [u32],
+    out_birth: &mut [u32],
+    out_population: &mut [u16],
+    out_left: &mut [u32],
+    out_right: &mut [u32],
+    out_parent: &mut [u32],
+    out_child: &mut [u32],
+    out_position: &mut [u32],
+    out_ancestral: &mut [u8],
+    out_site: &mut [u32],
+    out_node: &mut [u32],
+    out_derived: &mut [u8],
+    out_map: &mut [u32],
+) -> Seen {
+    let given = column(w, GIVEN + 22);
+    let mut population = [0u16; NODES];
+    cases::narrow(given, &mut population);
+    let lent = cases::fit(w, LENT + 11, out_population.len());
+    clean_lent(
+        w,
+        bytes,
+        cases::front_stocks(&population, given.len()),
+        out_time,
+        out_birth,
+        &mut out_population[..lent],
+        out_left,
+        out_right,
+        out_parent,
+        out_child,
+        out_position,
+        out_ancestral,
+        out_site,
+        out_node,
+        out_derived,
+        out_map,
+    )
+}
+
 // Whether the columns of a table are those due.
-fn same_nodes(w: &[u32], time: &[u32], birth: &[u32], map: &[u32]) -> bool {
+fn same_nodes(w: &[u32], time: &[u32], birth: &[u32], population: &[u16], map: &[u32]) -> bool {
     if !same(w, DUE, time) {
         return false;
     }
     if !same(w, DUE + 2, birth) {
         return false;
     }
-    same(w, DUE + 22, map)
+    if !same_stocks(w, DUE + 22, population) {
+        return false;
+    }
+    same(w, DUE + 24, map)
 }
 
 fn same_edges(w: &[u32], left: &[u32], right: &[u32], parent: &[u32], child: &[u32]) -> bool {
@@ -225,6 +281,7 @@ fn same_mutations(w: &[u32], site: &[u32], node: &[u32], derived: &[u8]) -> bool
 pub fn goes(w: &[u32], bytes: &[u8]) -> bool {
     let mut time = [cases::PATTERN; NODES];
     let mut birth = [cases::PATTERN; NODES];
+    let mut population = [cases::STOCK; NODES];
     let mut left = [cases::PATTERN; EDGES];
     let mut right = [cases::PATTERN; EDGES];
     let mut parent = [cases::PATTERN; EDGES];
@@ -235,11 +292,12 @@ pub fn goes(w: &[u32], bytes: &[u8]) -> bool {
     let mut node = [cases::PATTERN; MUTATIONS];
     let mut derived = [cases::MARK; MUTATIONS];
     let mut map = [cases::PATTERN; NODES];
-    let seen = clean_lent(
+    let seen = clean_stocks(
         w,
         bytes,
         &mut time,
         &mut birth,
+        &mut population,
         &mut left,
         &mut right,
         &mut parent,
@@ -254,7 +312,7 @@ pub fn goes(w: &[u32], bytes: &[u8]) -> bool {
     if !agrees(w, seen) {
         return false;
     }
-    if !same_nodes(w, &time, &birth, &map) {
+    if !same_nodes(w, &time, &birth, &population, &map) {
         return false;
     }
     if !same_edges(w, &left, &right, &parent, &child) {

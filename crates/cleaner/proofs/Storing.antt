@@ -24,7 +24,7 @@ use Rattle.cleaner.specs.Outcome.{afterCheck}
 use Rattle.cleaner.specs.Fitting.{RoomFor, stored-refused, stored-done}
 use Rattle.cleaner.specs.Finishing.{Fillable, Filled}
 use Rattle.cleaner.specs.Lists.{RoomForLists, ListsWritten}
-use Rattle.cleaner.specs.Results.{counted, kept-inside, times-is, births-is, places-is, sites-is, parents-rows, children-rows, turns, listed-rows}
+use Rattle.cleaner.specs.Results.{counted, kept-inside, times-is, births-is, populations-is, places-is, sites-is, parents-rows, children-rows, turns, listed-rows}
 
 -- rows of a table are rows of a longer one
 pub inside-more : {n m : ℕ} {l : List ℕ} → n ≤ m → Inside n l → Inside m l
@@ -103,8 +103,8 @@ module _ {L : ℕ} {T : Tables} {S : List ℕ} {W : Work} (r : Ready L T S W) wh
 
   -- ---- all tables
 
-  pub nodes-ready : {n : Needs} {l : Lent} → n .nodes ≡ W .nodes → RoomFor n l → (W .nodes ≤ length (W .kept)) × (W .nodes ≤ l .time) × (W .nodes ≤ l .birth) × Inside (length (T .nodes .time)) (take (W .nodes) (W .kept)) × (length (T .nodes .birth) ≡ length (T .nodes .time))
-  nodes-ready e room = (r .kept-long, omega (arith, room .time), omega (arith, room .birth), kept-inside L T S W r, r .ground .sound .shape .births)
+  pub nodes-ready : {n : Needs} {l : Lent} → n .nodes ≡ W .nodes → RoomFor n l → (W .nodes ≤ length (W .kept)) × (W .nodes ≤ l .time) × (W .nodes ≤ l .birth) × (W .nodes ≤ l .population) × Inside (length (T .nodes .time)) (take (W .nodes) (W .kept)) × (length (T .nodes .birth) ≡ length (T .nodes .time)) × (length (T .nodes .population) ≡ length (T .nodes .time))
+  nodes-ready e room = (r .kept-long, omega (arith, room .time), omega (arith, room .birth), omega (arith, room .population), kept-inside L T S W r, r .ground .sound .shape .births, r .ground .sound .shape .populations)
 
   pub states-even : length (T .sites .ancestral) ≡ length (T .sites .position)
   states-even = r .ground .sound .shape .states
@@ -116,12 +116,13 @@ module _ {L : ℕ} {T : Tables} {S : List ℕ} {W : Work} (r : Ready L T S W) wh
   map-written old new e = e ∙ ap (λ z. put z old) (sym (places-is L T S W r))
 
   -- the result stands at the fronts of the columns
-  pub all-written : (out out' : Tables) → out' .nodes .time ≡ put (map (at (T .nodes .time)) (take (W .nodes) (W .kept))) (out .nodes .time) → out' .nodes .birth ≡ put (map (at (T .nodes .birth)) (take (W .nodes) (W .kept))) (out .nodes .birth) → out' .sites .position ≡ put (T .sites .position) (out .sites .position) → out' .sites .ancestral ≡ put (T .sites .ancestral) (out .sites .ancestral) → ListsWritten (cleaned stands L T S) (out .edges) (out' .edges) (out .muts) (out' .muts) → out' ≡ putAll (cleaned stands L T S) out
+  pub all-written : (out out' : Tables) → out' .nodes .time ≡ put (map (at (T .nodes .time)) (take (W .nodes) (W .kept))) (out .nodes .time) → out' .nodes .birth ≡ put (map (at (T .nodes .birth)) (take (W .nodes) (W .kept))) (out .nodes .birth) → out' .nodes .population ≡ put (map (at (T .nodes .population)) (take (W .nodes) (W .kept))) (out .nodes .population) → out' .sites .position ≡ put (T .sites .position) (out .sites .position) → out' .sites .ancestral ≡ put (T .sites .ancestral) (out .sites .ancestral) → ListsWritten (cleaned stands L T S) (out .edges) (out' .edges) (out .muts) (out' .muts) → out' ≡ putAll (cleaned stands L T S) out
   unfolding putAll
-  all-written out out' a b c d l = λ i. record {
+  all-written out out' a b p c d l = λ i. record {
     nodes = record {
       time = (a ∙ ap (λ z. put z (out .nodes .time)) (sym (times-is L T S W r))) i;
       birth = (b ∙ ap (λ z. put z (out .nodes .birth)) (sym (births-is L T S W r))) i;
+      population = (p ∙ ap (λ z. put z (out .nodes .population)) (sym (populations-is L T S W r))) i;
     };
     edges = record { left = l .lefts i; right = l .rights i; parent = l .parents i; child = l .children i };
     sites = record {

@@ -23,6 +23,7 @@ pub record RoomFor (n : Needs) (l : Lent) : Type 0 where
   pub edges-few : n .edges ≤ limits .edges
   pub time : n .nodes ≤ l .time
   pub birth : n .nodes ≤ l .birth
+  pub population : n .nodes ≤ l .population
   pub left : n .edges ≤ l .left
   pub right : n .edges ≤ l .right
   pub parent : n .edges ≤ l .parent
@@ -50,7 +51,7 @@ pub room-for : (n : Needs) (l : Lent) (cells : ℕ) → roomWithin n l cells ≡
 unfolding roomWithin accepted
 room-for n l cells e =
     let h : Accepted (roomWithin n l cells) = ap accepted e in
-    let a : _ = table (limits .nodes) (min (l .time) (l .birth)) (n .nodes) 1 _ h in
+    let a : _ = table (limits .nodes) (min (l .time) (min (l .birth) (l .population))) (n .nodes) 1 _ h in
     let b : _ = table (limits .edges) (min (l .left) (min (l .right) (min (l .parent) (l .child)))) (n .edges) 2 _ (a .1) in
     let c : _ = table (limits .sites) (min (l .position) (l .ancestral)) (n .sites) 3 _ (b .1) in
     let d : _ = table (limits .mutations) (min (l .site) (min (l .node) (l .derived))) (n .mutations) 4 _ (c .1) in
@@ -59,6 +60,7 @@ room-for n l cells e =
       edges-few = b .0 .0;
       time = omega (arith, a .0 .1);
       birth = omega (arith, a .0 .1);
+      population = omega (arith, a .0 .1);
       left = omega (arith, b .0 .1);
       right = omega (arith, b .0 .1);
       parent = omega (arith, b .0 .1);
@@ -99,7 +101,7 @@ module _ (new : Tables) (newMap : List ℕ) (n : Needs) (h : Counted new newMap 
 
       same : roomWithin (needsOf new newMap) l cells ≡ roomWithin n l cells
       same = λ i.
-          refuse (or (ltb (limits .nodes) (h .nodes i)) (ltb (min (l .time) (l .birth)) (h .nodes i))) 13 1
+          refuse (or (ltb (limits .nodes) (h .nodes i)) (ltb (min (l .time) (min (l .birth) (l .population))) (h .nodes i))) 13 1
           (refuse (edges-lack (min (l .left) (min (l .right) (min (l .parent) (l .child)))) i) 13 2
           (refuse (or (ltb (limits .sites) (h .sites i)) (ltb (min (l .position) (l .ancestral)) (h .sites i))) 13 3
           (refuse (or (ltb (limits .mutations) (h .mutations i)) (ltb (min (l .site) (min (l .node) (l .derived))) (h .mutations i))) 13 4

@@ -9,7 +9,7 @@ use native.Mathlib.Omega.{arith}
 use lib.ListN.{length, getD, take}
 use lib.Seq.{length-take-le, getD-take}
 use Rattle.meaning.specs.Words.{at, mem, indexOf, lex, rows, sort}
-use Rattle.meaning.specs.Rows.{EdgeColumns, Tables, Edge}
+use Rattle.meaning.specs.Rows.{EdgeColumns, Tables, Edge, ageTable}
 use Rattle.meaning.specs.Answer.{limits}
 use Rattle.meaning.specs.Clean.{rowIn}
 use Rattle.laws.specs.Members.{at-map}
@@ -80,7 +80,7 @@ module _ (L : ℕ) (T : Tables) (S : List ℕ) (g : Ground limits L T S) (OR : L
         let s : _ = parent-stands limits L T S g (f i .left) (f i .child) (f i .parent) u in
         (kept-of L T S g OR o (f i .parent) (f i .left) (ends i l .0) x (s .1), kept-of L T S g OR o (f i .child) (f i .left) (ends i l .1) x (s .0))
 
-    module _ (places : List ℕ) (E' : EdgeColumns) (e : EdgesDone (T .nodes) places k E E') where
+    module _ (places : List ℕ) (E' : EdgeColumns) (e : EdgesDone (ageTable (T .nodes .time) (T .nodes .birth)) places k E E') where
       abbrev k0 : List ℕ
       k0 = map (at (T .nodes .time)) (take k (E .parent))
 

@@ -6,7 +6,7 @@ use lib.ListN.{length, take}
 use lib.Seq.{length-take-le}
 use native.Mathlib.Omega.{arith}
 use Rattle.meaning.specs.Words.{mem, rows}
-use Rattle.meaning.specs.Rows.{Tables, Edge}
+use Rattle.meaning.specs.Rows.{Tables, Edge, ageTable}
 use Rattle.meaning.specs.Answer.{limits}
 use Rattle.meaning.specs.Clean.{rowIn}
 use Rattle.order.specs.Counts.{bit}
@@ -20,7 +20,7 @@ use Rattle.keeping.specs.Standing.{listed-others}
 use Rattle.cleaner.specs.Work.{Work, inputIn, storeOf, Long, Ready}
 use Rattle.cleaner.specs.Tracing.{Traced, KeptRows}
 
-module _ (L : ℕ) (T : Tables) (S : List ℕ) (g : Ground limits L T S) (W : Work) (kept₀ kept₁ : List ℕ) (D₀ : Store) (V₀ : Moves) (t : Traced L (inputIn T W) (sampleRows (T .nodes .birth) S) kept₀ kept₁ D₀ (storeOf (length (T .nodes .time)) (W .store)) V₀ (W .moves)) (kr : KeptRows (T .nodes) (W .sample) (W .store .stood) (length S) kept₁ (W .nodes) (W .kept) (W .places)) (long : Long T W) where
+module _ (L : ℕ) (T : Tables) (S : List ℕ) (g : Ground limits L T S) (W : Work) (kept₀ kept₁ : List ℕ) (D₀ : Store) (V₀ : Moves) (t : Traced L (inputIn T W) (sampleRows (T .nodes .birth) S) kept₀ kept₁ D₀ (storeOf (length (T .nodes .time)) (W .store)) V₀ (W .moves)) (kr : KeptRows (ageTable (T .nodes .time) (T .nodes .birth)) (W .sample) (W .store .stood) (length S) kept₁ (W .nodes) (W .kept) (W .places)) (long : Long T W) where
   abbrev n : ℕ
   n = length (T .nodes .birth)
 

@@ -9,7 +9,7 @@ use lib.Dec.{eqb}
 use lib.ListN.{length}
 use borrow.Author.Tests.{eq-eqb, ne-eqb, ltb-false}
 use Rattle.meaning.specs.Words.{at, mem, count, indexOf, rows, rowsFrom}
-use Rattle.meaning.specs.Rows.{NodeColumns, EdgeColumns, Tables}
+use Rattle.meaning.specs.Rows.{NodeColumns, EdgeColumns}
 use Rattle.laws.specs.Bools.{eq?}
 use Rattle.laws.specs.Counting.{length-rows, get-rows}
 use Rattle.laws.specs.Members.{at-mem, index-at, index-below}
@@ -90,9 +90,6 @@ module _ (key b : List ℕ) (m : ℕ) (s : SortedFrom (byKeys key key key key) (
 -- ---- the plan
 
 module _ (L : ℕ) (N : NodeColumns) (E : EdgeColumns) (position site node S : List ℕ) (p : Passed L N E position site node S) where
-  abbrev T : Tables
-  T = record { nodes = N; edges = E; sites = record { position = position; ancestral = p .ancestral }; muts = record { site = site; node = node; derived = p .derived } }
-
   -- two edges of one child: one ends before the other begins
   apart : (e f : ℕ) → f < e → e < length (E .left) → at (E .child) e ≡ at (E .child) f → (at (E .right) e ≤ at (E .left) f) ⊎ (at (E .right) f ≤ at (E .left) e)
   apart e f h l c = go (trichotomy (at (E .left) e) (at (E .left) f)) (trichotomy (at (E .right) e) (at (E .left) f)) (trichotomy (at (E .right) f) (at (E .left) e))

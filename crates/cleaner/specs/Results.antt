@@ -6,7 +6,7 @@ use native.Mathlib.Omega.{arith}
 use lib.ListN.{length, getD, take, length-map}
 use lib.Seq.{length-take-le}
 use Rattle.meaning.specs.Words.{at, indexOf, rows, sort}
-use Rattle.meaning.specs.Rows.{NodeColumns, EdgeColumns, MutationColumns, Tables, Edge}
+use Rattle.meaning.specs.Rows.{NodeColumns, EdgeColumns, MutationColumns, Tables, Edge, ageTable}
 use Rattle.meaning.specs.Forest.{stands}
 use Rattle.meaning.specs.Answer.{limits, put}
 use Rattle.meaning.specs.Clean.{rowIn, cleaned, nodeMap}
@@ -102,7 +102,7 @@ module _ (L : ℕ) (T : Tables) (S : List ℕ) (W : Work) (r : Ready L T S W) wh
   low-same : (i : ℕ) → lowCell (inputIn T W) SR i ≡ lowOf i
   low-same i = ap (λ m. code (lowRow (T .edges) m SR (at (T .sites .position) (at (T .muts .site) i)) (at (T .muts .node) i))) (sym births)
 
-  nodes-is : cleaned stands L T S .nodes ≡ record { time = map (at (T .nodes .time)) K; birth = map (at (T .nodes .birth)) K }
+  nodes-is : cleaned stands L T S .nodes ≡ record { time = map (at (T .nodes .time)) K; birth = map (at (T .nodes .birth)) K; population = map (at (T .nodes .population)) K }
   unfolding tablesBy
   nodes-is = ap (λ (z : Tables). z .nodes) (is F₁ c₁)
 
@@ -142,6 +142,9 @@ module _ (L : ℕ) (T : Tables) (S : List ℕ) (W : Work) (r : Ready L T S W) wh
   pub births-is : cleaned stands L T S .nodes .birth ≡ map (at (T .nodes .birth)) (take (W .nodes) (W .kept))
   births-is = ap (λ (z : NodeColumns). z .birth) nodes-is ∙ ap (map (at (T .nodes .birth))) (sym (r .kept-is))
 
+  pub populations-is : cleaned stands L T S .nodes .population ≡ map (at (T .nodes .population)) (take (W .nodes) (W .kept))
+  populations-is = ap (λ (z : NodeColumns). z .population) nodes-is ∙ ap (map (at (T .nodes .population))) (sym (r .kept-is))
+
   pub places-is : nodeMap stands L T S ≡ take (length (T .nodes .time)) (W .places)
   places-is = map-is F₁ c₁ ∙ sym (r .placed) ∙ ap (λ z. take z (W .places)) births
 
@@ -171,7 +174,7 @@ module _ (L : ℕ) (T : Tables) (S : List ℕ) (W : Work) (r : Ready L T S W) wh
       pub turns : InTurns (E₂ .left) (E₂ .child) k
       turns = in-turns L T S g (r .others) (r .known) (f .edges) c₂ E₂ k same-count cell pl cl
 
-      edges-are : (E₃ : EdgeColumns) (e : EdgesDone (T .nodes) (W .places) k E₂ E₃) → cleaned stands L T S .edges ≡ record { left = map (at (E₂ .left)) (e .order); right = map (at (E₂ .right)) (e .order); parent = map (λ i. renamed (W .places) (at (E₂ .parent) i)) (e .order); child = map (λ i. renamed (W .places) (at (E₂ .child) i)) (e .order) }
+      edges-are : (E₃ : EdgeColumns) (e : EdgesDone (ageTable (T .nodes .time) (T .nodes .birth)) (W .places) k E₂ E₃) → cleaned stands L T S .edges ≡ record { left = map (at (E₂ .left)) (e .order); right = map (at (E₂ .right)) (e .order); parent = map (λ i. renamed (W .places) (at (E₂ .parent) i)) (e .order); child = map (λ i. renamed (W .places) (at (E₂ .child) i)) (e .order) }
       unfolding tablesBy
       edges-are E₃ e = ap (λ (z : Tables). z .edges) (is (f .edges) c₂) ∙ the-edges L T S g (r .others) (r .known) (f .edges) c₂ E₂ k same-count cell pl cl (W .places) E₃ e fits (r .placed)
 
@@ -191,7 +194,7 @@ module _ (L : ℕ) (T : Tables) (S : List ℕ) (W : Work) (r : Ready L T S W) wh
     pub listed-rows : W .moves .count ≤ length R₂ → Inside (length (T .muts .derived)) (take (W .moves .count) R₂)
     listed-rows h = rw (listed-is h) (record { row = λ j l. omega (arith, movers-below lowOf q j l, g .sound .shape .derived) })
 
-    module _ (pl : k ≤ length (E₂ .parent)) (cl : k ≤ length (E₂ .child)) (rl : W .moves .count ≤ length R₂) (vl : W .moves .count ≤ length V₂) (E₃ : EdgeColumns) (e : EdgesDone (T .nodes) (W .places) k E₂ E₃) (D₀ R₃ V₃ D₃ : List ℕ) (m : MutationsDone (W .places) (T .muts .site) (T .muts .derived) (W .moves .count) R₂ V₂ D₀ R₃ V₃ D₃) where
+    module _ (pl : k ≤ length (E₂ .parent)) (cl : k ≤ length (E₂ .child)) (rl : W .moves .count ≤ length R₂) (vl : W .moves .count ≤ length V₂) (E₃ : EdgeColumns) (e : EdgesDone (ageTable (T .nodes .time) (T .nodes .birth)) (W .places) k E₂ E₃) (D₀ R₃ V₃ D₃ : List ℕ) (m : MutationsDone (W .places) (T .muts .site) (T .muts .derived) (W .moves .count) R₂ V₂ D₀ R₃ V₃ D₃) where
       abbrev new : Tables
       new = cleaned stands L T S
 

@@ -4,7 +4,7 @@ use mathlib.Core.List.{List, map, _++_}
 use Prim.Native.Nat.{ℕ, _≤_}
 use lib.ListN.{length, take}
 use Rattle.meaning.specs.Words.{mem, rows}
-use Rattle.meaning.specs.Rows.{NodeColumns, EdgeColumns}
+use Rattle.meaning.specs.Rows.{NodeColumns, EdgeColumns, nodeTable}
 use Rattle.meaning.specs.Answer.{limits, put}
 use Rattle.meaning.specs.Clean.{rowIn}
 use Rattle.order.specs.Counts.{bit}
@@ -18,11 +18,12 @@ use Rattle.sweep.specs.Sweeping.{Done}
 use Rattle.keeping.specs.Others.{OthersListed}
 use Rattle.cleaner.specs.Sweeping.{Sweepable}
 
--- tables that pass the check, without the states, which no stage reads
+-- tables that pass the check, without the populations and states, which no stage reads
 pub record Passed (L : ℕ) (N : NodeColumns) (E : EdgeColumns) (position site node S : List ℕ) : Type 0 where
+  pub population : List ℕ
   pub ancestral : List ℕ
   pub derived : List ℕ
-  pub ground : Ground limits L (record { nodes = N; edges = E; sites = record { position = position; ancestral = ancestral }; muts = record { site = site; node = node; derived = derived } }) S
+  pub ground : Ground limits L (record { nodes = nodeTable (N .time) (N .birth) population; edges = E; sites = record { position = position; ancestral = ancestral }; muts = record { site = site; node = node; derived = derived } }) S
 
 -- the samples' rows SR stand in front, each is marked, and a sweep over I, which could be made again, was made into D and M
 pub record Traced (L : ℕ) (I : Input) (SR kept kept' : List ℕ) (D₀ D : Store) (M₀ M : Moves) : Type 0 where

@@ -4,7 +4,7 @@ ghost use mathlib.Core.List.{map};
 ghost use Prim.Native.Nat.{ℕ, _≤_};
 ghost use lib.ListN.{length, take};
 ghost use Rattle.meaning.specs.Words.{at};
-ghost use Rattle.meaning.specs.Rows.{nodeTable, edgeTable};
+ghost use Rattle.meaning.specs.Rows.{ageTable, edgeTable};
 ghost use Rattle.meaning.specs.Answer.{put};
 ghost use Rattle.bridge.specs.Columns.{Apart};
 ghost use Rattle.order.specs.Order.{Inside};
@@ -81,7 +81,7 @@ pub fn finish_edges(
         Inside (length (now time)) (take k (now child)) ×
         InTurns (now left) (now child) k ⌝ }
     ensures { λ _. ⌜
-        EdgesDone (nodeTable (now (time .entry)) (now (birth .entry))) (now (places .entry)) k
+        EdgesDone (ageTable (now (time .entry)) (now (birth .entry))) (now (places .entry)) k
         (edgeTable (now (left .entry)) (now (right .entry)) (now (parent .entry)) (now (child .entry)))
         (edgeTable (now (left .exit)) (now (right .exit)) (now (parent .exit)) (now (child .exit))) ⌝ }
 {

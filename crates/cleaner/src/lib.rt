@@ -24,6 +24,7 @@ fn clean_lent(
     len: u32,
     time: &[u32],
     birth: &[u32],
+    population: &[u16],
     left: &[u32],
     right: &[u32],
     parent: &[u32],
@@ -36,6 +37,7 @@ fn clean_lent(
     samples: &[u32],
     out_time: &mut [u32],
     out_birth: &mut [u32],
+    out_population: &mut [u16],
     out_left: &mut [u32],
     out_right: &mut [u32],
     out_parent: &mut [u32],
@@ -54,18 +56,18 @@ fn clean_lent(
     ensures { λ r. ⌜
         outcomeOf r
         (tables
-        (nodeTable (now («out_time» .exit)) (now («out_birth» .exit)))
+        (nodeTable (now («out_time» .exit)) (now («out_birth» .exit)) (now («out_population» .exit)))
         (edgeTable (now («out_left» .exit)) (now («out_right» .exit)) (now («out_parent» .exit)) (now («out_child» .exit)))
         (siteTable (now («out_position» .exit)) (now («out_ancestral» .exit)))
         (mutationTable (now («out_site» .exit)) (now («out_node» .exit)) (now («out_derived» .exit)))) (now («out_map» .exit))
         ≡ cleaning stands limits len
         (tables
-        (nodeTable (now (time .entry)) (now (birth .entry)))
+        (nodeTable (now (time .entry)) (now (birth .entry)) (now (population .entry)))
         (edgeTable (now (left .entry)) (now (right .entry)) (now (parent .entry)) (now (child .entry)))
         (siteTable (now (position .entry)) (now (ancestral .entry)))
         (mutationTable (now (site .entry)) (now (node .entry)) (now (derived .entry)))) (now (samples .entry))
         (tables
-        (nodeTable (now («out_time» .entry)) (now («out_birth» .entry)))
+        (nodeTable (now («out_time» .entry)) (now («out_birth» .entry)) (now («out_population» .entry)))
         (edgeTable (now («out_left» .entry)) (now («out_right» .entry)) (now («out_parent» .entry)) (now («out_child» .entry)))
         (siteTable (now («out_position» .entry)) (now («out_ancestral» .entry)))
         (mutationTable (now («out_site» .entry)) (now («out_node» .entry)) (now («out_derived» .entry)))) (now («out_map» .entry)) cells ⌝ }
@@ -75,6 +77,7 @@ fn clean_lent(
         len,
         time,
         birth,
+        population,
         left,
         right,
         parent,
@@ -93,6 +96,7 @@ fn clean_lent(
             len,
             time,
             birth,
+            population,
             left,
             right,
             parent,
@@ -105,6 +109,7 @@ fn clean_lent(
             samples,
             out_time,
             out_birth,
+            out_population,
             out_left,
             out_right,
             out_parent,
@@ -127,6 +132,7 @@ pub fn clean_within(
     len: u32,
     time: &[u32],
     birth: &[u32],
+    population: &[u16],
     left: &[u32],
     right: &[u32],
     parent: &[u32],
@@ -139,6 +145,7 @@ pub fn clean_within(
     samples: &[u32],
     out_time: &mut [u32],
     out_birth: &mut [u32],
+    out_population: &mut [u16],
     out_left: &mut [u32],
     out_right: &mut [u32],
     out_parent: &mut [u32],
@@ -154,18 +161,18 @@ pub fn clean_within(
     ensures { λ r. ⌜
         outcomeOf r
         (tables
-        (nodeTable (now («out_time» .exit)) (now («out_birth» .exit)))
+        (nodeTable (now («out_time» .exit)) (now («out_birth» .exit)) (now («out_population» .exit)))
         (edgeTable (now («out_left» .exit)) (now («out_right» .exit)) (now («out_parent» .exit)) (now («out_child» .exit)))
         (siteTable (now («out_position» .exit)) (now («out_ancestral» .exit)))
         (mutationTable (now («out_site» .exit)) (now («out_node» .exit)) (now («out_derived» .exit)))) (now («out_map» .exit))
         ≡ cleaning stands limits len
         (tables
-        (nodeTable (now (time .entry)) (now (birth .entry)))
+        (nodeTable (now (time .entry)) (now (birth .entry)) (now (population .entry)))
         (edgeTable (now (left .entry)) (now (right .entry)) (now (parent .entry)) (now (child .entry)))
         (siteTable (now (position .entry)) (now (ancestral .entry)))
         (mutationTable (now (site .entry)) (now (node .entry)) (now (derived .entry)))) (now (samples .entry))
         (tables
-        (nodeTable (now («out_time» .entry)) (now («out_birth» .entry)))
+        (nodeTable (now («out_time» .entry)) (now («out_birth» .entry)) (now («out_population» .entry)))
         (edgeTable (now («out_left» .entry)) (now («out_right» .entry)) (now («out_parent» .entry)) (now («out_child» .entry)))
         (siteTable (now («out_position» .entry)) (now («out_ancestral» .entry)))
         (mutationTable (now («out_site» .entry)) (now («out_node» .entry)) (now («out_derived» .entry)))) (now («out_map» .entry)) cells ⌝ }
@@ -176,6 +183,7 @@ pub fn clean_within(
         len,
         time,
         birth,
+        population,
         left,
         right,
         parent,
@@ -188,6 +196,7 @@ pub fn clean_within(
         samples,
         out_time,
         out_birth,
+        out_population,
         out_left,
         out_right,
         out_parent,
@@ -209,6 +218,7 @@ pub fn clean(
     len: u32,
     time: &[u32],
     birth: &[u32],
+    population: &[u16],
     left: &[u32],
     right: &[u32],
     parent: &[u32],
@@ -221,6 +231,7 @@ pub fn clean(
     samples: &[u32],
     out_time: &mut [u32],
     out_birth: &mut [u32],
+    out_population: &mut [u16],
     out_left: &mut [u32],
     out_right: &mut [u32],
     out_parent: &mut [u32],
@@ -235,18 +246,18 @@ pub fn clean(
     ensures { λ r. ⌜
         outcomeOf r
         (tables
-        (nodeTable (now («out_time» .exit)) (now («out_birth» .exit)))
+        (nodeTable (now («out_time» .exit)) (now («out_birth» .exit)) (now («out_population» .exit)))
         (edgeTable (now («out_left» .exit)) (now («out_right» .exit)) (now («out_parent» .exit)) (now («out_child» .exit)))
         (siteTable (now («out_position» .exit)) (now («out_ancestral» .exit)))
         (mutationTable (now («out_site» .exit)) (now («out_node» .exit)) (now («out_derived» .exit)))) (now («out_map» .exit))
         ≡ cleaning stands limits len
         (tables
-        (nodeTable (now (time .entry)) (now (birth .entry)))
+        (nodeTable (now (time .entry)) (now (birth .entry)) (now (population .entry)))
         (edgeTable (now (left .entry)) (now (right .entry)) (now (parent .entry)) (now (child .entry)))
         (siteTable (now (position .entry)) (now (ancestral .entry)))
         (mutationTable (now (site .entry)) (now (node .entry)) (now (derived .entry)))) (now (samples .entry))
         (tables
-        (nodeTable (now («out_time» .entry)) (now («out_birth» .entry)))
+        (nodeTable (now («out_time» .entry)) (now («out_birth» .entry)) (now («out_population» .entry)))
         (edgeTable (now («out_left» .entry)) (now («out_right» .entry)) (now («out_parent» .entry)) (now («out_child» .entry)))
         (siteTable (now («out_position» .entry)) (now («out_ancestral» .entry)))
         (mutationTable (now («out_site» .entry)) (now («out_node» .entry)) (now («out_derived» .entry)))) (now («out_map» .entry)) 4 ⌝ }
@@ -255,6 +266,7 @@ pub fn clean(
         len,
         time,
         birth,
+        population,
         left,
         right,
         parent,
@@ -267,6 +279,7 @@ pub fn clean(
         samples,
         out_time,
         out_birth,
+        out_population,
         out_left,
         out_right,
         out_parent,

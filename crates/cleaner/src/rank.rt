@@ -3,7 +3,7 @@ ghost use mathlib.Core.Path.{_≡_};
 ghost use Prim.Native.Nat.{ℕ, _+_, _-_, _≤_};
 ghost use lib.ListN.{length, take};
 ghost use Rattle.meaning.specs.Words.{rows};
-ghost use Rattle.meaning.specs.Rows.{nodeTable};
+ghost use Rattle.meaning.specs.Rows.{ageTable};
 ghost use Rattle.accepted.specs.Checked.{Apart};
 ghost use Rattle.order.specs.Order.{Inside, SortedFrom, byKeys};
 ghost use Rattle.cleaner.specs.Tracing.{KeptRows};
@@ -80,7 +80,7 @@ pub fn keep_rows(
         Apart (now birth) ×
         Inside (length (now time)) (take ns (now kept)) ⌝ }
     ensures { λ r. ⌜
-        KeptRows (nodeTable (now (time .entry)) (now (birth .entry))) (now (sample .entry)) (now (stood .entry)) ns (now (kept .entry)) r
+        KeptRows (ageTable (now (time .entry)) (now (birth .entry))) (now (sample .entry)) (now (stood .entry)) ns (now (kept .entry)) r
         (now (kept .exit)) (now (places .exit)) ⌝ }
 {
     let n = time.len();

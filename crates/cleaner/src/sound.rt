@@ -5,7 +5,7 @@ ghost use mathlib.Core.Path.{_≡_};
 ghost use mathlib.Core.List.{List};
 ghost use Prim.Native.Nat.{ℕ, _≤_};
 ghost use lib.ListN.{length};
-ghost use Rattle.meaning.specs.Rows.{nodeTable, edgeTable, siteTable, mutationTable, tables};
+ghost use Rattle.meaning.specs.Rows.{ageTable, nodeTable, edgeTable, siteTable, mutationTable, tables};
 ghost use Rattle.meaning.specs.Answer.{limits};
 ghost use Rattle.meaning.specs.Clean.{outcomeOf};
 ghost use Rattle.order.specs.Ranks.{Ranked};
@@ -63,13 +63,13 @@ fn work(
 ) -> Sizes
     requires { ⌜
         Passed len
-        (nodeTable (now time) (now birth))
+        (ageTable (now time) (now birth))
         (edgeTable (now left) (now right) (now parent) (now child)) (now position) (now site) (now node) (now samples) × ((length (now kept) ≡ 1280) × (length (now places) ≡ limits .nodes) × (length (now sample) ≡ limits .nodes) × (length (now bl) ≡ limits .edges) × (length (now br) ≡ limits .edges) × (length (now fr) ≡ length (now fl)) × (length (now fp) ≡ length (now fl)) × (length (now fc) ≡ length (now fl)) × (length (now stood) ≡ limits .nodes) × (length (now mlow) ≡ length (now mrow))) × Ranked (now birth) (now «by_birth») ⌝ }
     ensures { λ r. ⌜
-        ((A D : List ℕ) →
+        ((P A D : List ℕ) →
         Ground limits len
         (record {
-          nodes = nodeTable (now (time .entry)) (now (birth .entry));
+          nodes = nodeTable (now (time .entry)) (now (birth .entry)) P;
           edges = edgeTable (now (left .entry)) (now (right .entry)) (now (parent .entry)) (now (child .entry));
           sites = record { position = now (position .entry); ancestral = A };
           muts = record { site = now (site .entry); node = now (node .entry); derived = D };
@@ -77,7 +77,7 @@ fn work(
         (now (samples .entry)) →
         Ready len
         (record {
-          nodes = nodeTable (now (time .entry)) (now (birth .entry));
+          nodes = nodeTable (now (time .entry)) (now (birth .entry)) P;
           edges = edgeTable (now (left .entry)) (now (right .entry)) (now (parent .entry)) (now (child .entry));
           sites = record { position = now (position .entry); ancestral = A };
           muts = record { site = now (site .entry); node = now (node .entry); derived = D };
@@ -132,6 +132,7 @@ pub fn clean_sound(
     len: u32,
     time: &[u32],
     birth: &[u32],
+    population: &[u16],
     left: &[u32],
     right: &[u32],
     parent: &[u32],
@@ -144,6 +145,7 @@ pub fn clean_sound(
     samples: &[u32],
     out_time: &mut [u32],
     out_birth: &mut [u32],
+    out_population: &mut [u16],
     out_left: &mut [u32],
     out_right: &mut [u32],
     out_parent: &mut [u32],
@@ -161,25 +163,25 @@ pub fn clean_sound(
     requires { ⌜
         Ground limits len
         (tables
-        (nodeTable (now time) (now birth))
+        (nodeTable (now time) (now birth) (now population))
         (edgeTable (now left) (now right) (now parent) (now child))
         (siteTable (now position) (now ancestral))
         (mutationTable (now site) (now node) (now derived))) (now samples) × Ranked (now birth) (now «by_birth») × (length (now bl) ≡ limits .edges) ⌝ }
     ensures { λ r. ⌜
         outcomeOf r
         (tables
-        (nodeTable (now («out_time» .exit)) (now («out_birth» .exit)))
+        (nodeTable (now («out_time» .exit)) (now («out_birth» .exit)) (now («out_population» .exit)))
         (edgeTable (now («out_left» .exit)) (now («out_right» .exit)) (now («out_parent» .exit)) (now («out_child» .exit)))
         (siteTable (now («out_position» .exit)) (now («out_ancestral» .exit)))
         (mutationTable (now («out_site» .exit)) (now («out_node» .exit)) (now («out_derived» .exit)))) (now («out_map» .exit))
         ≡ afterCheck len
         (tables
-        (nodeTable (now (time .entry)) (now (birth .entry)))
+        (nodeTable (now (time .entry)) (now (birth .entry)) (now (population .entry)))
         (edgeTable (now (left .entry)) (now (right .entry)) (now (parent .entry)) (now (child .entry)))
         (siteTable (now (position .entry)) (now (ancestral .entry)))
         (mutationTable (now (site .entry)) (now (node .entry)) (now (derived .entry)))) (now (samples .entry))
         (tables
-        (nodeTable (now («out_time» .entry)) (now («out_birth» .entry)))
+        (nodeTable (now («out_time» .entry)) (now («out_birth» .entry)) (now («out_population» .entry)))
         (edgeTable (now («out_left» .entry)) (now («out_right» .entry)) (now («out_parent» .entry)) (now («out_child» .entry)))
         (siteTable (now («out_position» .entry)) (now («out_ancestral» .entry)))
         (mutationTable (now («out_site» .entry)) (now («out_node» .entry)) (now («out_derived» .entry)))) (now («out_map» .entry)) cells ⌝ }
@@ -225,6 +227,7 @@ pub fn clean_sound(
         len,
         time,
         birth,
+        population,
         left,
         right,
         parent,
@@ -253,6 +256,7 @@ pub fn clean_sound(
         z.mutations,
         out_time,
         out_birth,
+        out_population,
         out_left,
         out_right,
         out_parent,

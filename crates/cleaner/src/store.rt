@@ -25,23 +25,29 @@ use meaning::Tabled;
 fn write_nodes(
     time: &[u32],
     birth: &[u32],
+    population: &[u16],
     kept: &[u32],
     k: usize,
     out_time: &mut [u32],
     out_birth: &mut [u32],
+    out_population: &mut [u16],
 )
     requires { ⌜
         (k ≤ length (now kept)) ×
         (k ≤ length (now «out_time»)) ×
         (k ≤ length (now «out_birth»)) ×
+        (k ≤ length (now «out_population»)) ×
         Inside (length (now time)) (take k (now kept)) ×
-        (length (now birth) ≡ length (now time)) ⌝ }
+        (length (now birth) ≡ length (now time)) ×
+        (length (now population) ≡ length (now time)) ⌝ }
     ensures { λ _. ⌜
         (now («out_time» .exit) ≡ put (map (at (now (time .entry))) (take k (now (kept .entry)))) (now («out_time» .entry))) ×
-        (now («out_birth» .exit) ≡ put (map (at (now (birth .entry))) (take k (now (kept .entry)))) (now («out_birth» .entry))) ⌝ }
+        (now («out_birth» .exit) ≡ put (map (at (now (birth .entry))) (take k (now (kept .entry)))) (now («out_birth» .entry))) ×
+        (now («out_population» .exit) ≡ put (map (at (now (population .entry))) (take k (now (kept .entry)))) (now («out_population» .entry))) ⌝ }
 {
     writing::gather(time, kept, k, out_time);
     writing::gather(birth, kept, k, out_birth);
+    writing::gather_populations(population, kept, k, out_population);
 }
 
 // Table 3: all sites, unchanged.
@@ -68,6 +74,7 @@ fn write_lists(
     len: u32,
     time: &[u32],
     birth: &[u32],
+    population: &[u16],
     left: &[u32],
     right: &[u32],
     parent: &[u32],
@@ -105,7 +112,7 @@ fn write_lists(
     requires { ⌜
         Ready len
         (record {
-          nodes = record { time = now time; birth = now birth };
+          nodes = record { time = now time; birth = now birth; population = now population };
           edges = record { left = now left; right = now right; parent = now parent; child = now child };
           sites = record { position = now position; ancestral = now ancestral };
           muts = record { site = now site; node = now node; derived = now derived };
@@ -128,7 +135,7 @@ fn write_lists(
         ListsWritten
         (cleaned stands len
         (record {
-          nodes = record { time = now (time .entry); birth = now (birth .entry) };
+          nodes = record { time = now (time .entry); birth = now (birth .entry); population = now (population .entry) };
           edges = record { left = now (left .entry); right = now (right .entry); parent = now (parent .entry); child = now (child .entry) };
           sites = record { position = now (position .entry); ancestral = now (ancestral .entry) };
           muts = record { site = now (site .entry); node = now (node .entry); derived = now (derived .entry) };
@@ -207,6 +214,7 @@ fn write_all(
     len: u32,
     time: &[u32],
     birth: &[u32],
+    population: &[u16],
     left: &[u32],
     right: &[u32],
     parent: &[u32],
@@ -235,6 +243,7 @@ fn write_all(
     mutations: usize,
     out_time: &mut [u32],
     out_birth: &mut [u32],
+    out_population: &mut [u16],
     out_left: &mut [u32],
     out_right: &mut [u32],
     out_parent: &mut [u32],
@@ -249,7 +258,7 @@ fn write_all(
     requires { ⌜
         Ready len
         (record {
-          nodes = record { time = now time; birth = now birth };
+          nodes = record { time = now time; birth = now birth; population = now population };
           edges = record { left = now left; right = now right; parent = now parent; child = now child };
           sites = record { position = now position; ancestral = now ancestral };
           muts = record { site = now site; node = now node; derived = now derived };
@@ -269,7 +278,7 @@ fn write_all(
         RoomFor (record { nodes = nodes; edges = edges; sites = length (now position); mutations = mutations; rows = length (now time) })
         (lentBy
         (record {
-          nodes = record { time = now «out_time»; birth = now «out_birth» };
+          nodes = record { time = now «out_time»; birth = now «out_birth»; population = now «out_population» };
           edges = record { left = now «out_left»; right = now «out_right»; parent = now «out_parent»; child = now «out_child» };
           sites = record { position = now «out_position»; ancestral = now «out_ancestral» };
           muts = record { site = now «out_site»; node = now «out_node»; derived = now «out_derived» };
@@ -277,12 +286,12 @@ fn write_all(
         (now «out_map»)) ⌝ }
     ensures { λ _. ⌜
         ((record {
-          nodes = record { time = now («out_time» .exit); birth = now («out_birth» .exit) };
+          nodes = record { time = now («out_time» .exit); birth = now («out_birth» .exit); population = now («out_population» .exit) };
           edges = record { left = now («out_left» .exit); right = now («out_right» .exit); parent = now («out_parent» .exit); child = now («out_child» .exit) };
           sites = record { position = now («out_position» .exit); ancestral = now («out_ancestral» .exit) };
           muts = record { site = now («out_site» .exit); node = now («out_node» .exit); derived = now («out_derived» .exit) };
-        }) ≡ putAll (cleaned stands len (record { nodes = record { time = now (time .entry); birth = now (birth .entry) }; edges = record { left = now (left .entry); right = now (right .entry); parent = now (parent .entry); child = now (child .entry) }; sites = record { position = now (position .entry); ancestral = now (ancestral .entry) }; muts = record { site = now (site .entry); node = now (node .entry); derived = now (derived .entry) } }) (now (samples .entry))) (record {
-          nodes = record { time = now («out_time» .entry); birth = now («out_birth» .entry) };
+        }) ≡ putAll (cleaned stands len (record { nodes = record { time = now (time .entry); birth = now (birth .entry); population = now (population .entry) }; edges = record { left = now (left .entry); right = now (right .entry); parent = now (parent .entry); child = now (child .entry) }; sites = record { position = now (position .entry); ancestral = now (ancestral .entry) }; muts = record { site = now (site .entry); node = now (node .entry); derived = now (derived .entry) } }) (now (samples .entry))) (record {
+          nodes = record { time = now («out_time» .entry); birth = now («out_birth» .entry); population = now («out_population» .entry) };
           edges = record { left = now («out_left» .entry); right = now («out_right» .entry); parent = now («out_parent» .entry); child = now («out_child» .entry) };
           sites = record { position = now («out_position» .entry); ancestral = now («out_ancestral» .entry) };
           muts = record { site = now («out_site» .entry); node = now («out_node» .entry); derived = now («out_derived» .entry) };
@@ -291,7 +300,7 @@ fn write_all(
         put
         (nodeMap stands len
         (record {
-          nodes = record { time = now (time .entry); birth = now (birth .entry) };
+          nodes = record { time = now (time .entry); birth = now (birth .entry); population = now (population .entry) };
           edges = record { left = now (left .entry); right = now (right .entry); parent = now (parent .entry); child = now (child .entry) };
           sites = record { position = now (position .entry); ancestral = now (ancestral .entry) };
           muts = record { site = now (site .entry); node = now (node .entry); derived = now (derived .entry) };
@@ -299,12 +308,22 @@ fn write_all(
         (now (samples .entry)))
         (now («out_map» .entry))) ⌝ }
 {
-    write_nodes(time, birth, kept, nodes, out_time, out_birth);
+    write_nodes(
+        time,
+        birth,
+        population,
+        kept,
+        nodes,
+        out_time,
+        out_birth,
+        out_population,
+    );
     write_sites(position, ancestral, out_position, out_ancestral);
     write_lists(
         len,
         time,
         birth,
+        population,
         left,
         right,
         parent,
@@ -347,6 +366,7 @@ pub fn store(
     len: u32,
     time: &[u32],
     birth: &[u32],
+    population: &[u16],
     left: &[u32],
     right: &[u32],
     parent: &[u32],
@@ -375,6 +395,7 @@ pub fn store(
     mutations: usize,
     out_time: &mut [u32],
     out_birth: &mut [u32],
+    out_population: &mut [u16],
     out_left: &mut [u32],
     out_right: &mut [u32],
     out_parent: &mut [u32],
@@ -390,7 +411,7 @@ pub fn store(
     requires { ⌜
         Ready len
         (record {
-          nodes = record { time = now time; birth = now birth };
+          nodes = record { time = now time; birth = now birth; population = now population };
           edges = record { left = now left; right = now right; parent = now parent; child = now child };
           sites = record { position = now position; ancestral = now ancestral };
           muts = record { site = now site; node = now node; derived = now derived };
@@ -408,8 +429,8 @@ pub fn store(
         }) ×
         Ranked (now birth) (now «by_birth») ⌝ }
     ensures { λ r. ⌜
-        outcomeOf r (record { nodes = record { time = now («out_time» .exit); birth = now («out_birth» .exit) }; edges = record { left = now («out_left» .exit); right = now («out_right» .exit); parent = now («out_parent» .exit); child = now («out_child» .exit) }; sites = record { position = now («out_position» .exit); ancestral = now («out_ancestral» .exit) }; muts = record { site = now («out_site» .exit); node = now («out_node» .exit); derived = now («out_derived» .exit) } }) (now («out_map» .exit))
-        ≡ afterCheck len (record { nodes = record { time = now (time .entry); birth = now (birth .entry) }; edges = record { left = now (left .entry); right = now (right .entry); parent = now (parent .entry); child = now (child .entry) }; sites = record { position = now (position .entry); ancestral = now (ancestral .entry) }; muts = record { site = now (site .entry); node = now (node .entry); derived = now (derived .entry) } }) (now (samples .entry)) (record { nodes = record { time = now («out_time» .entry); birth = now («out_birth» .entry) }; edges = record { left = now («out_left» .entry); right = now («out_right» .entry); parent = now («out_parent» .entry); child = now («out_child» .entry) }; sites = record { position = now («out_position» .entry); ancestral = now («out_ancestral» .entry) }; muts = record { site = now («out_site» .entry); node = now («out_node» .entry); derived = now («out_derived» .entry) } }) (now («out_map» .entry)) cells ⌝ }
+        outcomeOf r (record { nodes = record { time = now («out_time» .exit); birth = now («out_birth» .exit); population = now («out_population» .exit) }; edges = record { left = now («out_left» .exit); right = now («out_right» .exit); parent = now («out_parent» .exit); child = now («out_child» .exit) }; sites = record { position = now («out_position» .exit); ancestral = now («out_ancestral» .exit) }; muts = record { site = now («out_site» .exit); node = now («out_node» .exit); derived = now («out_derived» .exit) } }) (now («out_map» .exit))
+        ≡ afterCheck len (record { nodes = record { time = now (time .entry); birth = now (birth .entry); population = now (population .entry) }; edges = record { left = now (left .entry); right = now (right .entry); parent = now (parent .entry); child = now (child .entry) }; sites = record { position = now (position .entry); ancestral = now (ancestral .entry) }; muts = record { site = now (site .entry); node = now (node .entry); derived = now (derived .entry) } }) (now (samples .entry)) (record { nodes = record { time = now («out_time» .entry); birth = now («out_birth» .entry); population = now («out_population» .entry) }; edges = record { left = now («out_left» .entry); right = now («out_right» .entry); parent = now («out_parent» .entry); child = now («out_child» .entry) }; sites = record { position = now («out_position» .entry); ancestral = now («out_ancestral» .entry) }; muts = record { site = now («out_site» .entry); node = now («out_node» .entry); derived = now («out_derived» .entry) } }) (now («out_map» .entry)) cells ⌝ }
 {
     let t = writing::within::no_room_within(
         nodes,
@@ -419,6 +440,7 @@ pub fn store(
         time.len(),
         out_time.len(),
         out_birth.len(),
+        out_population.len(),
         out_left.len(),
         out_right.len(),
         out_parent.len(),
@@ -438,6 +460,7 @@ pub fn store(
         len,
         time,
         birth,
+        population,
         left,
         right,
         parent,
@@ -466,6 +489,7 @@ pub fn store(
         mutations,
         out_time,
         out_birth,
+        out_population,
         out_left,
         out_right,
         out_parent,

@@ -3,7 +3,7 @@ ghost use mathlib.Core.Path.{_≡_};
 ghost use mathlib.Core.List.{List};
 ghost use Prim.Native.Nat.{ℕ, _≤_};
 ghost use lib.ListN.{length, take};
-ghost use Rattle.meaning.specs.Rows.{nodeTable, edgeTable};
+ghost use Rattle.meaning.specs.Rows.{ageTable, edgeTable};
 ghost use Rattle.order.specs.Ranks.{Ranked};
 ghost use Rattle.byrows.specs.Rows.{sampleRows};
 ghost use Rattle.tree.specs.TreeAt.{Flags};
@@ -123,7 +123,7 @@ pub fn trace(
 ) -> Tally
     requires { ⌜
         Passed len
-        (nodeTable (now time) (now birth))
+        (ageTable (now time) (now birth))
         (edgeTable (now left) (now right) (now parent) (now child)) (now position) (now site) (now node) (now samples) × Roomy (length (now time)) (length (now left)) (length (now samples)) (now kept) (now sample) (now bl) (now br) (record { left = now fl; right = now fr; parent = now fp; child = now fc; stood = now stood; count = 0 }) (record { row = now mrow; low = now mlow; count = 0 }) × Ranked (now birth) (now «by_birth») ⌝ }
     ensures { λ r. ⌜
         Traced len (record { time = now (time .entry); sample = take (length (now (time .entry))) (now (sample .exit)); left = now (left .entry); right = now (right .entry); parent = now (parent .entry); child = now (child .entry); by-left = take (length (now (left .entry))) (now (bl .exit)); by-right = take (length (now (left .entry))) (now (br .exit)); position = now (position .entry); site = now (site .entry); node = now (node .entry) }) (sampleRows (now (birth .entry)) (now (samples .entry))) (now (kept .entry)) (now (kept .exit)) (record { left = now (fl .entry); right = now (fr .entry); parent = now (fp .entry); child = now (fc .entry); stood = take (length (now (time .entry))) (now (stood .entry)); count = 0 }) (record { left = now (fl .exit); right = now (fr .exit); parent = now (fp .exit); child = now (fc .exit); stood = take (length (now (time .entry))) (now (stood .exit)); count = r .edges }) (record { row = now (mrow .entry); low = now (mlow .entry); count = 0 }) (record { row = now (mrow .exit); low = now (mlow .exit); count = r .mutations }) ⌝ }

@@ -1,14 +1,15 @@
 -- The letter's three demands, each sentence with the theorem that says it. The functions are those that the code's promises cite.
-use mathlib.Core.Path.{_≡_, ap, _∙_}
+use mathlib.Core.Path.{_≡_, refl, ap, _∙_}
 use mathlib.Core.Bool.{true, false}
-use mathlib.Core.List.{List, [], _∷_}
+use mathlib.Core.List.{List, [], _∷_, _++_}
 use mathlib.Core.Logic.{_⊎_}
 use Prim.Native.Nat.{ℕ, _≤_, _<_, _^_}
 use lib.ListN.{length, take}
-use Rattle.meaning.specs.Words.{at, mem}
-use Rattle.meaning.specs.Rows.{Tables, Edge, nodeAt, recordOf}
+use Rattle.meaning.specs.Words.{at, mem, zeros}
+use Rattle.meaning.specs.Rows.{Tables, Edge, nodeAt, nodeTable, recordOf}
 use Rattle.meaning.specs.Forest.{stands}
-use lib.Dec.{ltb}
+use lib.Dec.{eqb, ltb}
+use borrow.Author.Tests.{eqb-true}
 use Rattle.meaning.specs.Answer.{Answer, Limits, done, limits, storedLimits, accepted, refuse, lacks, put, given, absent, unread}
 use Rattle.meaning.specs.Lent.{no-rows-written, rowsIn, putAll, fitThen, blockThen}
 use Rattle.meaning.specs.Check.{check, checkAllThen}
@@ -17,9 +18,11 @@ use Rattle.meaning.specs.Allele.{alleleAnswer, allele}
 use Rattle.meaning.specs.Join.{BatchTables, batchOf, batchThen, joined, joinEnd, joinFit, joinAnswer, joining}
 use Rattle.meaning.specs.Called.{packed, cleanCall, joinCall}
 use Rattle.meaning.specs.Stored.{number}
-use Rattle.meaning.specs.Files.{found, tablesIn, samplesIn, handed, roomAnswer, reading, laid, written, writeAnswer, writing}
+use Rattle.meaning.specs.Files.{found, tablesIn, samplesIn, handed, roomAnswer, reading, laid, populated, written, writeAnswer, writing}
 use Rattle.meaning.specs.Printed.{listed}
-use Rattle.meaning.specs.Shown.{zeros, blank, shown}
+use Rattle.meaning.specs.Shown.{blank, shown}
+use Rattle.meaning.specs.Stocks.{plain, plainBatch}
+use Rattle.laws.specs.Bools.{not-no}
 use Rattle.laws.specs.Facts.{In, All, Distinct}
 use Rattle.forest.specs.Mrca.{Mrca}
 use Rattle.forest.specs.Profile.{stands-profile}
@@ -28,6 +31,7 @@ use Rattle.accepted.specs.Records.{Young}
 use Rattle.accepted.specs.Rooms.{block-done}
 use Rattle.accepted.specs.Endings.{clean-done, join-done}
 use Rattle.form.specs.Numbers.{Bytes}
+use Rattle.stored.specs.Admitted.{write-accepted}
 use Rattle.stored.specs.RoundTrip.{Cells, read-written, written-read}
 use Rattle.results.specs.Trees.{treeAt, Ancestral, Induced, NoUnary}
 use Rattle.results.specs.Published.{induced-subtrees, no-unary-vertices, only-ancestral-nodes, only-ancestral-edges, no-adjacent-edges}
@@ -36,6 +40,8 @@ use Rattle.results.specs.NodeTable as node-table
 use Rattle.results.specs.NodeTable.{Mapped}
 use Rattle.results.specs.Cleaning.{cleaned-passes, same-answer, cleaned-gives, cleaned-absent, cleaned-isolated, cleaned-twice}
 use Rattle.results.specs.Joining.{Together, joined-rows, joined-passes}
+use Rattle.results.specs.Stocks as stocks
+use Rattle.results.specs.Stocks.{Alike, AlikeJoined, AlikeCalled, AlikeJoinCalled}
 use Rattle.demands.specs.First as first
 use Rattle.demands.specs.Listed.{file-shown}
 use Rattle.demands.specs.Histories.{Lent, LentJoin, Call, joins, cleans, tidied, untouched, NotRefused}
@@ -120,6 +126,11 @@ module _ (m : Limits) (L : ℕ) (T : Tables) (S : List ℕ) (out : Tables) (outM
   pub rows-as-they-were : (i : ℕ) → i < length (cleaned stands L T S .nodes .birth) → (j : ℕ) × (j < length (T .nodes .birth)) × (nodeAt (T .nodes) j ≡ nodeAt (cleaned stands L T S .nodes) i)
   rows-as-they-were = node-table.rows-copied stands stands-profile m L T S out outMap cells taken u32
 
+  -- M-106, "Cleaning and joining copy it": the population of an output row is that of the input row of the same birth
+  pub stock-as-it-was : (i j : ℕ) → i < length (cleaned stands L T S .nodes .birth) → j < length (T .nodes .birth) → at (T .nodes .birth) j ≡ at (cleaned stands L T S .nodes .birth) i →
+      at (T .nodes .population) j ≡ at (cleaned stands L T S .nodes .population) i
+  stock-as-it-was = stocks.stock-copied stands stands-profile m L T S out outMap cells taken u32
+
   -- 000's third and fourth property: what leads to no sample is gone, and touching edges are one
   pub nodes-lead-to-samples : (b : ℕ) → mem b (cleaned stands L T S .nodes .birth) ≡ true → (x : ℕ) × (x < L) × Ancestral L T (cleaned stands L T S) S x b
   nodes-lead-to-samples = only-ancestral-nodes m L T S out outMap cells taken u32
@@ -177,8 +188,31 @@ module _ (m : Limits) (L : ℕ) (T : Tables) (B : BatchTables) (out : Tables) (c
   pub rows-of-both : Together (recordOf L T) (batchOf B) (recordOf L (joined L T B))
   rows-of-both = joined-rows m L T B out cells (of-done (joinAnswer m L T B out cells) not-refused)
 
+  -- M-106: the node rows are the record's and then the batch's, whole, each with its population
+  pub nodes-of-both : joined L T B .nodes ≡ nodeTable (T .nodes .time ++ B .nodes .time) (T .nodes .birth ++ B .nodes .birth) (T .nodes .population ++ B .nodes .population)
+  nodes-of-both = stocks.joined-nodes m L T B out cells (of-done (joinAnswer m L T B out cells) not-refused)
+
   pub joined-is-sound : (U : List ℕ) → length U ≤ m .samples → Distinct U → ((b : ℕ) → In U b → mem b (joined L T B .nodes .birth) ≡ true) → check m L (joined L T B) U ≡ done
   joined-is-sound = joined-passes m L T B out cells (of-done (joinAnswer m L T B out cells) not-refused)
+
+-- M-106, "it plays no part in order or in what stands": calls whose tables and batches differ in populations only (`plain` makes every population 0)
+-- have the same answer, the same rows written and the same map, and leave cells that differ in populations only; refused or not
+pub cleaning-ignores-stocks : (m : Limits) (L : ℕ) (S : List ℕ) (out : Tables) (outMap : List ℕ) (cells : ℕ) (T T' : Tables) → plain T ≡ plain T' →
+    Alike (cleaning stands m L T S out outMap cells) (cleaning stands m L T' S out outMap cells)
+cleaning-ignores-stocks = stocks.stocks-apart stands
+
+pub join-ignores-stocks : (m : Limits) (L : ℕ) (out : Tables) (cells : ℕ) (T T' : Tables) (B B' : BatchTables) → plain T ≡ plain T' → plainBatch B ≡ plainBatch B' →
+    AlikeJoined (joining m L T B out cells) (joining m L T' B' out cells)
+join-ignores-stocks = stocks.joined-stocks-apart
+
+-- called from C
+pub clean-call-ignores-stocks : (m : Limits) (L : ℕ) (S : List ℕ) (out : Tables) (outMap block : List ℕ) (T T' : Tables) → plain T ≡ plain T' →
+    AlikeCalled (cleanCall stands m L T S out outMap block) (cleanCall stands m L T' S out outMap block)
+clean-call-ignores-stocks = stocks.called-stocks-apart stands
+
+pub join-call-ignores-stocks : (m : Limits) (L : ℕ) (out : Tables) (block : List ℕ) (T T' : Tables) (B B' : BatchTables) → plain T ≡ plain T' → plainBatch B ≡ plainBatch B' →
+    AlikeJoinCalled (joinCall m L T B out block) (joinCall m L T' B' out block)
+join-call-ignores-stocks = stocks.join-called-stocks-apart
 
 -- "The file we store gives back the same tables": what was written is read as the same L, tables and samples, and refused for want of room only,
 pub file-gives-back-tables : (m : Limits) (L : ℕ) (T : Tables) (S : List ℕ) (room : ℕ) → L < 256 ^ 4 → Cells T S → accepted (writeAnswer 2 m L T S room) ≡ true →
@@ -189,6 +223,16 @@ file-gives-back-tables = read-written 2
 pub tables-give-back-file : (m : Limits) (file : List ℕ) (out : Tables) (listOut : List ℕ) → Bytes file → accepted (reading 2 m file out listOut .answer) ≡ true →
     (lent : List ℕ) → writing 2 m (number 4 file 2) (tablesIn (found 2 m file)) (samplesIn (found 2 m file)) lent ≡ laid (refuse (ltb (length lent) (length file)) 13 7 done) file lent
 tables-give-back-file = written-read 2
+
+-- M-106, "The stored form of 01 has no field for it: reading gives 0"
+pub reading-gives-no-stock : (m : Limits) (file : List ℕ) → tablesIn (found 2 m file) .nodes .population ≡ zeros (length (tablesIn (found 2 m file) .nodes .time))
+unfolding tablesIn
+reading-gives-no-stock m file = refl
+
+-- "and writing refuses another value": what is not refused has population 0 in every node row
+pub writing-takes-no-stock : (m : Limits) (L : ℕ) (T : Tables) (S : List ℕ) (room : ℕ) → accepted (writeAnswer 2 m L T S room) ≡ true → (i : ℕ) → i < length (T .nodes .time) → at (T .nodes .population) i ≡ 0
+unfolding populated
+writing-takes-no-stock m L T S room h i l = eqb-true (at (T .nodes .population) i) 0 (not-no (eqb (at (T .nodes .population) i) 0) (write-accepted 2 m L T S room h .2 .nodes i l))
 
 -- the listing is the cleaning: of a file that is read and cleaned the program prints L, the cleaned tables and the map
 pub listing-is-cleaning : (file : List ℕ) → Accepted (reading 2 storedLimits file blank (zeros (storedLimits .samples)) .answer) →

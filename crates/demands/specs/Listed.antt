@@ -3,6 +3,7 @@ use mathlib.Core.Path.{_≡_, refl, sym, ap, ap₂, _∙_}
 use mathlib.Core.List.{List, _++_}
 use Prim.Native.Nat.{ℕ}
 use lib.ListN.{length, take, drop, length-map}
+use Rattle.meaning.specs.Words.{zeros}
 use Rattle.meaning.specs.Rows.{Tables, recordOf, tablesOf}
 use Rattle.meaning.specs.Forest.{stands}
 use Rattle.meaning.specs.Answer.{Answer, done, limits, storedLimits, accepted, put, left-by}
@@ -11,7 +12,7 @@ use Rattle.meaning.specs.Clean.{Outcome, rowIn, kept, clean, cleanEnd, cleaned,
 use Rattle.meaning.specs.Stored.{number, form, formThen}
 use Rattle.meaning.specs.Files.{ifDone, handed, found, tablesIn, samplesIn, reading, roomAnswer}
 use Rattle.meaning.specs.Printed.{listed}
-use Rattle.meaning.specs.Shown.{zeros, blank, front, printedBy, outcomeShown, cleanShown, readingShown, shown}
+use Rattle.meaning.specs.Shown.{blank, front, printedBy, outcomeShown, cleanShown, readingShown, shown}
 use Rattle.accepted.specs.Refusals.{Accepted, of-done}
 use Rattle.accepted.specs.Checked.{Shaped}
 use Rattle.accepted.specs.Calls.{clean-tells}
@@ -30,6 +31,7 @@ front-put T out s = λ i. record {
   nodes = record {
     time = take-put (length (T .nodes .time)) (T .nodes .time) (out .nodes .time) refl i;
     birth = take-put (length (T .nodes .time)) (T .nodes .birth) (out .nodes .birth) (sym (s .births)) i;
+    population = take-put (length (T .nodes .time)) (T .nodes .population) (out .nodes .population) (sym (s .populations)) i;
   };
   edges = record {
     left = take-put (length (T .edges .left)) (T .edges .left) (out .edges .left) refl i;

@@ -24,7 +24,7 @@ cells = replicate 16 7
 
 abbrev pub room : Tables
 room = record {
-  nodes = record { time = cells; birth = cells };
+  nodes = record { time = cells; birth = cells; population = cells };
   edges = record { left = cells; right = cells; parent = cells; child = cells };
   sites = record { position = cells; ancestral = cells };
   muts = record { site = cells; node = cells; derived = cells };
@@ -39,7 +39,7 @@ lent-join = record { out = room; cells = 4 }
 -- 601 is born of 401 alone, 602 of 401 and 301
 abbrev pub spawn : BatchTables
 spawn = record {
-  nodes = record { time = 0 ∷ 0 ∷ []; birth = 601 ∷ 602 ∷ [] };
+  nodes = record { time = 0 ∷ 0 ∷ []; birth = 601 ∷ 602 ∷ []; population = 2 ∷ 9 ∷ [] };
   edges = record { left = 0 ∷ 0 ∷ 5 ∷ []; right = 10 ∷ 5 ∷ 10 ∷ []; parent = 401 ∷ 401 ∷ 301 ∷ []; child = 601 ∷ 602 ∷ 602 ∷ [] };
   muts = record { site = 0 ∷ []; node = 601 ∷ []; derived = 66 ∷ [] };
 }
@@ -100,7 +100,7 @@ premise-needed = record { after-first-cleaning = refl; from-raw-input = refl }
 -- "Cleaning can isolate a fish": 7 hangs below 8 alone, which does not stand for the samples 7, so that the cleaned tables give 7 no parent
 abbrev pub lone : Tables
 lone = record {
-  nodes = record { time = 0 ∷ 1 ∷ []; birth = 7 ∷ 8 ∷ [] };
+  nodes = record { time = 0 ∷ 1 ∷ []; birth = 7 ∷ 8 ∷ []; population = 0 ∷ 0 ∷ [] };
   edges = record { left = 0 ∷ []; right = 10 ∷ []; parent = 1 ∷ []; child = 0 ∷ [] };
   sites = record { position = 3 ∷ []; ancestral = 65 ∷ [] };
   muts = record { site = []; node = []; derived = [] };

@@ -7,7 +7,7 @@ use Prim.Native.Nat.{ℕ, zero, suc, _<_}
 use native.Mathlib.Omega.{arith}
 use lib.ListN.{length, length-map}
 use Rattle.meaning.specs.Words.{at, mem, rows}
-use Rattle.meaning.specs.Rows.{NodeColumns, Tables, Node, Edge, Record, births, nodesOf, edgesOf, nodeOf, timeOf, recordOf, tablesOf}
+use Rattle.meaning.specs.Rows.{NodeColumns, Tables, Node, Edge, Record, births, nodeAt, nodesOf, edgesOf, nodeOf, timeOf, recordOf, tablesOf}
 use Rattle.meaning.specs.Forest.{Ages, Rules, stands}
 use Rattle.meaning.specs.Answer.{Limits, done}
 use Rattle.meaning.specs.Clean.{kept, clean, cleaned, cleanAnswer}
@@ -34,7 +34,7 @@ all-times (n ∷ l) (also q a) (suc i) h = all-times l a i (omega arith)
 
 young-rows : (N : NodeColumns) → Young N → All (λ (n : Node). n .time < Ages) (nodesOf N)
 unfolding nodesOf
-young-rows N y = all-rows (λ (n : Node). n .time < Ages) (λ i. record { time = at (N .time) i; birth = at (N .birth) i }) (length (N .time)) y
+young-rows N y = all-rows (λ (n : Node). n .time < Ages) (nodeAt N) (length (N .time)) y
 
 young-copied : (N : List Node) (l : List ℕ) → ((b : ℕ) → timeOf N b < Ages) → All (λ (n : Node). n .time < Ages) (map (nodeOf N) l)
 unfolding timeOf

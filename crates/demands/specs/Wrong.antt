@@ -1,5 +1,5 @@
 -- Wrong cleaners of 01's listing for 501 and 502, each refuted by a theorem of Demands: one that loses a sample, one that alters a time,
--- one that writes a row twice, one that drops a site, one that writes a map of its own.
+-- one that writes a row twice, one that drops a site, one that writes a map of its own, one that gives a fish another's population.
 use mathlib.Core.Path.{_≡_, refl, sym, ap}
 use mathlib.Core.Bool.{true, false}
 use mathlib.Core.List.{List, [], _∷_}
@@ -18,13 +18,20 @@ samples = 501 ∷ 502 ∷ []
 
 -- the node table without 502; with another time for 501; with 501 once more
 abbrev lost : NodeColumns
-lost = record { time = 0 ∷ 1 ∷ 2 ∷ []; birth = 501 ∷ 401 ∷ 301 ∷ [] }
+lost = record { time = 0 ∷ 1 ∷ 2 ∷ []; birth = 501 ∷ 401 ∷ 301 ∷ []; population = 0 ∷ 0 ∷ 0 ∷ [] }
 
 abbrev altered : NodeColumns
-altered = record { time = 9 ∷ 0 ∷ 1 ∷ 2 ∷ []; birth = 501 ∷ 502 ∷ 401 ∷ 301 ∷ [] }
+altered = record { time = 9 ∷ 0 ∷ 1 ∷ 2 ∷ []; birth = 501 ∷ 502 ∷ 401 ∷ 301 ∷ []; population = 0 ∷ 0 ∷ 0 ∷ 0 ∷ [] }
 
 abbrev repeated : NodeColumns
-repeated = record { time = 0 ∷ 0 ∷ 0 ∷ []; birth = 501 ∷ 502 ∷ 501 ∷ [] }
+repeated = record { time = 0 ∷ 0 ∷ 0 ∷ []; birth = 501 ∷ 502 ∷ 501 ∷ []; population = 0 ∷ 0 ∷ 0 ∷ [] }
+
+-- fish of five stocks, and the two samples with each other's
+abbrev stocked : List ℕ
+stocked = 3 ∷ 1 ∷ 4 ∷ 1 ∷ 5 ∷ []
+
+abbrev swapped : NodeColumns
+swapped = record { time = 0 ∷ 0 ∷ 1 ∷ 2 ∷ []; birth = 501 ∷ 502 ∷ 401 ∷ 301 ∷ []; population = 1 ∷ 3 ∷ 4 ∷ 1 ∷ [] }
 
 abbrev one-site : SiteColumns
 one-site = record { position = 5 ∷ []; ancestral = 65 ∷ [] }
@@ -53,6 +60,8 @@ pub record Refuted : Type 0 where
   -- by `map-by-birth`: 401 sent to the row of 501, and to none
   pub map-astray : Mapped (501 ∷ 502 ∷ 401 ∷ 301 ∷ []) 401 0 → ⊥
   pub map-to-none : Mapped (501 ∷ 502 ∷ 401 ∷ 301 ∷ []) 401 4294967295 → ⊥
+  -- by `stock-as-it-was`, at row 0
+  pub stock-swapped : ((i j : ℕ) → i < length (swapped .birth) → j < length (nodes .birth) → at (nodes .birth) j ≡ at (swapped .birth) i → at stocked j ≡ at (swapped .population) i) → ⊥
 
 astray : Mapped (501 ∷ 502 ∷ 401 ∷ 301 ∷ []) 401 0 → ⊥
 astray (to-row l e) = omega (arith, e)
@@ -73,4 +82,5 @@ refuted = record {
   site-dropped = λ e. let q : _≡_ {A = ℕ} 0 8 = ap (λ (s : SiteColumns). second (s .position)) e in omega arith;
   map-astray = astray;
   map-to-none = to-nowhere;
+  stock-swapped = λ h. let q : _≡_ {A = ℕ} 3 1 = h 0 0 (omega arith) (omega arith) refl in omega arith;
 }

@@ -19,7 +19,7 @@ record BatchSized (B : BatchTables) : Type 0 where
 low-batch-shapes : (B : BatchTables) (rest : Answer) → (length (B .nodes .birth) ≡ length (B .nodes .time) → Low rest) → Low (batchShapes B rest)
 unfolding batchShapes
 low-batch-shapes B rest h =
-    low-even (B .nodes .time) (B .nodes .birth) [] 20 1 _ (omega arith) (λ b.
+    low-even (B .nodes .time) (B .nodes .birth) (B .nodes .population ∷ []) 20 1 _ (omega arith) (λ b.
     low-if (ragged (B .edges .left ∷ B .edges .right ∷ B .edges .parent ∷ B .edges .child ∷ [])) 20 2 _ (omega arith) (λ _.
     low-if (ragged (B .muts .site ∷ B .muts .node ∷ B .muts .derived ∷ [])) 20 4 rest (omega arith) (λ _. h b)))
 

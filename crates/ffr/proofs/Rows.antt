@@ -47,7 +47,7 @@ low-few most rows n r rest k h = low-if (ltb most rows) n r rest k (λ e. h (ltb
 
 pub low-shapes : (T : Tables) (rest : Answer) → (length (T .nodes .birth) ≡ length (T .nodes .time) → Low rest) → Low (shapes T rest)
 unfolding shapes
-low-shapes T rest h = low-even (T .nodes .time) (T .nodes .birth) [] 1 1 _ (omega arith) (λ b. low-if (ragged (T .edges .left ∷ T .edges .right ∷ T .edges .parent ∷ T .edges .child ∷ [])) 1 2 _ (omega arith) (λ _. low-if (ragged (T .sites .position ∷ T .sites .ancestral ∷ [])) 1 3 _ (omega arith) (λ _. low-if (ragged (T .muts .site ∷ T .muts .node ∷ T .muts .derived ∷ [])) 1 4 rest (omega arith) (λ _. h b))))
+low-shapes T rest h = low-even (T .nodes .time) (T .nodes .birth) (T .nodes .population ∷ []) 1 1 _ (omega arith) (λ b. low-if (ragged (T .edges .left ∷ T .edges .right ∷ T .edges .parent ∷ T .edges .child ∷ [])) 1 2 _ (omega arith) (λ _. low-if (ragged (T .sites .position ∷ T .sites .ancestral ∷ [])) 1 3 _ (omega arith) (λ _. low-if (ragged (T .muts .site ∷ T .muts .node ∷ T .muts .derived ∷ [])) 1 4 rest (omega arith) (λ _. h b))))
 
 pub low-sizes : (T : Tables) (rest : Answer) → (Sized limits T → Low rest) → Low (sizes limits T rest)
 unfolding sizes
@@ -71,7 +71,7 @@ low-samples birth S rest l h = low-row 11 _ _ _ l (low-row 12 _ _ rest l h)
 pub low-fit : (new out : Tables) (rest : Answer) → Low rest → Low (fitThen limits new out rest)
 unfolding fitThen
 low-fit new out rest h =
-    low-if (lacks (limits .nodes) (out .nodes .time ∷ out .nodes .birth ∷ []) (length (new .nodes .time))) 13 1 _ (omega arith) (λ _.
+    low-if (lacks (limits .nodes) (out .nodes .time ∷ out .nodes .birth ∷ out .nodes .population ∷ []) (length (new .nodes .time))) 13 1 _ (omega arith) (λ _.
     low-if (lacks (limits .edges) (out .edges .left ∷ out .edges .right ∷ out .edges .parent ∷ out .edges .child ∷ []) (length (new .edges .left))) 13 2 _ (omega arith) (λ _.
     low-if (lacks (limits .sites) (out .sites .position ∷ out .sites .ancestral ∷ []) (length (new .sites .position))) 13 3 _ (omega arith) (λ _.
     low-if (lacks (limits .mutations) (out .muts .site ∷ out .muts .node ∷ out .muts .derived ∷ []) (length (new .muts .site))) 13 4 rest (omega arith) (λ _. h))))

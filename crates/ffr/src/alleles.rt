@@ -8,10 +8,11 @@ use meaning::Panel;
 
 // The answer's number times 2^32 plus its row; after 0 both blocks have a byte for each fish and site, fish by fish.
 #[no_mangle]
-pub extern "C" fn ffr_alleles(
+pub extern "C" fn ffr_alleles_v2(
     len: u32,
     time: &[u32],
     birth: &[u32],
+    population: &[u16],
     left: &[u32],
     right: &[u32],
     parent: &[u32],
@@ -29,7 +30,7 @@ pub extern "C" fn ffr_alleles(
     ensures { λ r. ⌜
         _≡_ {A = PanelCall} (record { code = r; states = now (states .exit); flags = now (flags .exit) }) (panelCall limits len
         (tables
-        (nodeTable (now (time .entry)) (now (birth .entry)))
+        (nodeTable (now (time .entry)) (now (birth .entry)) (now (population .entry)))
         (edgeTable (now (left .entry)) (now (right .entry)) (now (parent .entry)) (now (child .entry)))
         (siteTable (now (position .entry)) (now (ancestral .entry)))
         (mutationTable (now (site .entry)) (now (node .entry)) (now (derived .entry)))) (now (sites .entry)) (now (fish .entry)) (now (states .entry)) (now (flags .entry))) ⌝ }
@@ -38,6 +39,7 @@ pub extern "C" fn ffr_alleles(
         len,
         time,
         birth,
+        population,
         left,
         right,
         parent,

@@ -5,7 +5,7 @@ use mathlib.Core.List.{List, [], _∷_, map}
 use Prim.Native.Nat.{ℕ, zero, suc}
 use lib.ListN.{length}
 use Rattle.meaning.specs.Words.{at, mem, rows, rowsFrom, indexOf}
-use Rattle.meaning.specs.Rows.{NodeColumns, EdgeColumns, SiteColumns, MutationColumns, Node, Edge, Site, Mutation, Record, births, nodesOf, edgesOf, sitesOf, mutsOf, recordOf, tablesOf}
+use Rattle.meaning.specs.Rows.{NodeColumns, EdgeColumns, SiteColumns, MutationColumns, Node, Edge, Site, Mutation, Record, births, nodeAt, nodesOf, edgesOf, sitesOf, mutsOf, recordOf, tablesOf}
 use Rattle.laws.specs.Members.{index-at}
 use Rattle.laws.specs.Facts.{All, done, also, Closed}
 
@@ -23,12 +23,12 @@ module _ {A : Type 0} (f : ℕ → A) where
 -- ---- each table there and back
 
 abbrev nodeColumns : List Node → NodeColumns
-nodeColumns l = record { time = map (λ (n : Node). n .time) l; birth = births l }
+nodeColumns l = record { time = map (λ (n : Node). n .time) l; birth = births l; population = map (λ (n : Node). n .population) l }
 
 nodes-back : (l : List Node) → nodesOf (nodeColumns l) ≡ l
 unfolding nodesOf births rows
 nodes-back [] = refl
-nodes-back (n ∷ l) = rows-cons (λ i. record { time = at (nodeColumns (n ∷ l) .time) i; birth = at (nodeColumns (n ∷ l) .birth) i }) (length (map (λ (n : Node). n .time) l))
+nodes-back (n ∷ l) = rows-cons (nodeAt (nodeColumns (n ∷ l))) (length (map (λ (n : Node). n .time) l))
     ∙ ap (λ r. n ∷ r) (nodes-back l)
 
 abbrev siteColumns : List Site → SiteColumns

@@ -23,7 +23,7 @@ use Rattle.history.specs.Run.{batch, tidy, Names, Accepted}
 abbrev raw : Record
 raw = record {
   len = 10;
-  nodes = record { time = 4; birth = 1 } ∷ record { time = 5; birth = 2 } ∷ [];
+  nodes = record { time = 4; birth = 1; population = 6 } ∷ record { time = 5; birth = 2; population = 7 } ∷ [];
   edges = record { left = 0; right = 10; parent = 2; child = 1 } ∷ [];
   sites = [];
   muts = [];
@@ -32,7 +32,7 @@ raw = record {
 -- fish 3 is a child of fish 1
 abbrev born : Batch
 born = record {
-  nodes = record { time = 0; birth = 3 } ∷ [];
+  nodes = record { time = 0; birth = 3; population = 8 } ∷ [];
   edges = record { left = 0; right = 10; parent = 1; child = 3 } ∷ [];
   muts = [];
 }

@@ -1,13 +1,17 @@
-// A record in one column of words and one of bytes: start and length of each of its eleven columns, then the columns.
+// A record in one column of words and one of bytes: start and length of each of its twelve columns, then the columns; the population is
+// the last of them, and stands in words.
 ghost use Prim.Native.Nat.{_≤_};
 
 // Cells and bytes of a record that has room for every table's limit.
-pub const WORDS: usize = 21024;
+pub const WORDS: usize = 22048;
 
 pub const BYTES: usize = 1536;
 
 // Most cells of a column.
 const MOST: usize = 4096;
+
+// Where the populations start.
+const STOCKS: u32 = 21024;
 
 fn most(n: usize) -> usize
     ensures { λ r. ⌜ r ≤ 4096 ⌝ }
@@ -74,6 +78,26 @@ fn copy_bytes(bytes: &mut [u8], start: u32, column: &[u8], n: usize)
     }
 }
 
+// A population, 0 past the end.
+fn stock(s: &[u16], i: usize) -> u32 {
+    if i < s.len() {
+        return cases::broad(s[i]);
+    }
+    0
+}
+
+fn copy_stocks(rec: &mut [u32], start: u32, column: &[u16], n: usize)
+    requires { ⌜ n ≤ 4096 ⌝ }
+{
+    let at = start as usize;
+    let mut i = 0;
+    while i < n {
+        let v = stock(column, i);
+        cases::set(rec, at + i, v);
+        i += 1;
+    }
+}
+
 // Puts a column of words into a record, as its k-th.
 fn put(rec: &mut [u32], k: usize, start: u32, column: &[u32]) {
     let n = most(column.len());
@@ -86,6 +110,18 @@ fn put_bytes(rec: &mut [u32], bytes: &mut [u8], k: usize, start: u32, column: &[
     let n = most(column.len());
     note(rec, k, start, n);
     copy_bytes(bytes, start, column, n);
+}
+
+// Puts the populations of a start record, which stand in words, into a record.
+pub fn put_stocks(rec: &mut [u32], column: &[u32]) {
+    put(rec, 11, STOCKS, column);
+}
+
+// Puts populations that a call gave into a record.
+fn keep_stocks(rec: &mut [u32], column: &[u16]) {
+    let n = most(column.len());
+    note(rec, 11, STOCKS, n);
+    copy_stocks(rec, STOCKS, column, n);
 }
 
 fn put_nodes(rec: &mut [u32], time: &[u32], birth: &[u32]) {
@@ -111,7 +147,7 @@ fn put_mutations(rec: &mut [u32], bytes: &mut [u8], site: &[u32], node: &[u32], 
     put_bytes(rec, bytes, 10, 512, derived);
 }
 
-// Puts four tables into a record.
+// Puts four tables but the populations into a record.
 pub fn keep(
     rec: &mut [u32],
     bytes: &mut [u8],
@@ -143,6 +179,7 @@ pub fn keep_rows(
     mutations: usize,
     time: &[u32],
     birth: &[u32],
+    population: &[u16],
     left: &[u32],
     right: &[u32],
     parent: &[u32],
@@ -168,4 +205,5 @@ pub fn keep_rows(
         front(node, mutations),
         front_bytes(derived, mutations),
     );
+    keep_stocks(rec, cases::front_stocks(population, nodes));
 }

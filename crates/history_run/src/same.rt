@@ -67,5 +67,8 @@ pub fn same(a: &[u32], s: &[u8], b: &[u32], t: &[u8], at: usize) -> bool {
     if !same_column(a, b, at, 9) {
         return false;
     }
+    if !same_column(a, b, at, 11) {
+        return false;
+    }
     same_states(a, s, b, t, at, 10)
 }

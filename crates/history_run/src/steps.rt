@@ -47,15 +47,18 @@ fn answered(r: Tabled) -> Seen {
     }
 }
 
-// The record joined with the batch whose pairs start at this cell.
-fn join_columns(
+// The record joined with the batch whose pairs start at this cell, the populations of both beside them.
+fn join_given(
     w: &[u32],
     bytes: &[u8],
     at: usize,
     rec: &[u32],
     states: &[u8],
+    base: &[u16],
+    young: &[u16],
     out_time: &mut [u32],
     out_birth: &mut [u32],
+    out_population: &mut [u16],
     out_left: &mut [u32],
     out_right: &mut [u32],
     out_parent: &mut [u32],
@@ -70,6 +73,7 @@ fn join_columns(
         cases::get(w, 0),
         cases::column(rec, 0, 0),
         cases::column(rec, 0, 1),
+        base,
         cases::column(rec, 0, 2),
         cases::column(rec, 0, 3),
         cases::column(rec, 0, 4),
@@ -81,6 +85,7 @@ fn join_columns(
         cases::states(states, rec, 0, 10),
         cases::column(w, at, 0),
         cases::column(w, at, 1),
+        young,
         cases::column(w, at, 2),
         cases::column(w, at, 3),
         cases::column(w, at, 4),
@@ -90,6 +95,7 @@ fn join_columns(
         cases::states(bytes, w, at, 8),
         out_time,
         out_birth,
+        out_population,
         out_left,
         out_right,
         out_parent,
@@ -102,14 +108,65 @@ fn join_columns(
     ))
 }
 
-// The record cleaned for the list whose pair stands at this cell.
-fn clean_columns(
+// The same with the populations in cells of their width.
+fn join_columns(
     w: &[u32],
+    bytes: &[u8],
     at: usize,
     rec: &[u32],
     states: &[u8],
     out_time: &mut [u32],
     out_birth: &mut [u32],
+    out_population: &mut [u16],
+    out_left: &mut [u32],
+    out_right: &mut [u32],
+    out_parent: &mut [u32],
+    out_child: &mut [u32],
+    out_position: &mut [u32],
+    out_ancestral: &mut [u8],
+    out_site: &mut [u32],
+    out_node: &mut [u32],
+    out_derived: &mut [u8],
+) -> Seen {
+    let first = cases::column(rec, 0, 11);
+    let more = cases::column(w, at, 9);
+    let mut base = [0u16; NODES];
+    let mut young = [0u16; NODES];
+    cases::narrow(first, &mut base);
+    cases::narrow(more, &mut young);
+    join_given(
+        w,
+        bytes,
+        at,
+        rec,
+        states,
+        cases::front_stocks(&base, first.len()),
+        cases::front_stocks(&young, more.len()),
+        out_time,
+        out_birth,
+        out_population,
+        out_left,
+        out_right,
+        out_parent,
+        out_child,
+        out_position,
+        out_ancestral,
+        out_site,
+        out_node,
+        out_derived,
+    )
+}
+
+// The record cleaned for the list whose pair stands at this cell, its populations beside it.
+fn clean_given(
+    w: &[u32],
+    at: usize,
+    rec: &[u32],
+    states: &[u8],
+    population: &[u16],
+    out_time: &mut [u32],
+    out_birth: &mut [u32],
+    out_population: &mut [u16],
     out_left: &mut [u32],
     out_right: &mut [u32],
     out_parent: &mut [u32],
@@ -125,6 +182,7 @@ fn clean_columns(
         cases::get(w, 0),
         cases::column(rec, 0, 0),
         cases::column(rec, 0, 1),
+        population,
         cases::column(rec, 0, 2),
         cases::column(rec, 0, 3),
         cases::column(rec, 0, 4),
@@ -137,6 +195,7 @@ fn clean_columns(
         cases::column(w, at, 0),
         out_time,
         out_birth,
+        out_population,
         out_left,
         out_right,
         out_parent,
@@ -150,10 +209,56 @@ fn clean_columns(
     ))
 }
 
+// The same with the populations in cells of their width.
+fn clean_columns(
+    w: &[u32],
+    at: usize,
+    rec: &[u32],
+    states: &[u8],
+    out_time: &mut [u32],
+    out_birth: &mut [u32],
+    out_population: &mut [u16],
+    out_left: &mut [u32],
+    out_right: &mut [u32],
+    out_parent: &mut [u32],
+    out_child: &mut [u32],
+    out_position: &mut [u32],
+    out_ancestral: &mut [u8],
+    out_site: &mut [u32],
+    out_node: &mut [u32],
+    out_derived: &mut [u8],
+    out_map: &mut [u32],
+) -> Seen {
+    let given = cases::column(rec, 0, 11);
+    let mut population = [0u16; NODES];
+    cases::narrow(given, &mut population);
+    clean_given(
+        w,
+        at,
+        rec,
+        states,
+        cases::front_stocks(&population, given.len()),
+        out_time,
+        out_birth,
+        out_population,
+        out_left,
+        out_right,
+        out_parent,
+        out_child,
+        out_position,
+        out_ancestral,
+        out_site,
+        out_node,
+        out_derived,
+        out_map,
+    )
+}
+
 // Joins a batch to the record; false where that is refused.
 pub fn join(w: &[u32], bytes: &[u8], at: usize, rec: &mut [u32], states: &mut [u8]) -> bool {
     let mut time = [0u32; NODES];
     let mut birth = [0u32; NODES];
+    let mut population = [0u16; NODES];
     let mut left = [0u32; EDGES];
     let mut right = [0u32; EDGES];
     let mut parent = [0u32; EDGES];
@@ -171,6 +276,7 @@ pub fn join(w: &[u32], bytes: &[u8], at: usize, rec: &mut [u32], states: &mut [u
         states,
         &mut time,
         &mut birth,
+        &mut population,
         &mut left,
         &mut right,
         &mut parent,
@@ -193,6 +299,7 @@ pub fn join(w: &[u32], bytes: &[u8], at: usize, rec: &mut [u32], states: &mut [u
         seen.mutations,
         &time,
         &birth,
+        &population,
         &left,
         &right,
         &parent,
@@ -210,6 +317,7 @@ pub fn join(w: &[u32], bytes: &[u8], at: usize, rec: &mut [u32], states: &mut [u
 pub fn clean(w: &[u32], at: usize, rec: &mut [u32], states: &mut [u8]) -> bool {
     let mut time = [0u32; NODES];
     let mut birth = [0u32; NODES];
+    let mut population = [0u16; NODES];
     let mut left = [0u32; EDGES];
     let mut right = [0u32; EDGES];
     let mut parent = [0u32; EDGES];
@@ -227,6 +335,7 @@ pub fn clean(w: &[u32], at: usize, rec: &mut [u32], states: &mut [u8]) -> bool {
         states,
         &mut time,
         &mut birth,
+        &mut population,
         &mut left,
         &mut right,
         &mut parent,
@@ -250,6 +359,7 @@ pub fn clean(w: &[u32], at: usize, rec: &mut [u32], states: &mut [u8]) -> bool {
         seen.mutations,
         &time,
         &birth,
+        &population,
         &left,
         &right,
         &parent,

@@ -9,9 +9,9 @@ const COUNT: usize = 1;
 
 const START: usize = 2;
 
-const DUE: usize = 24;
+const DUE: usize = 26;
 
-const STEPS: usize = 46;
+const STEPS: usize = 50;
 
 // Kinds of steps; any other is the last cleaning.
 const JOIN: u32 = 1;
@@ -33,7 +33,7 @@ fn place(k: usize) -> usize
     if 10000 < k {
         return 0;
     }
-    STEPS + 20 * k
+    STEPS + 21 * k
 }
 
 // One step of a history; cleanings but the last only where all are asked for.
@@ -74,6 +74,7 @@ fn begin(w: &[u32], bytes: &[u8], rec: &mut [u32], states: &mut [u8]) {
         cases::column(w, START, 9),
         cases::states(bytes, w, START, 10),
     );
+    record::put_stocks(rec, cases::column(w, START, 11));
 }
 
 // Every step in turn; false where a call is refused.

@@ -3,20 +3,27 @@ use crate::answer;
 use crate::answer::Seen;
 
 // Where the parts of a case's numbers start: L, the lent lengths, then start and length of each column of the base and of the batch.
+// The population is the last column of each.
 const LENGTH: usize = 0;
 
 const LENT: usize = 7;
 
-const BASE: usize = 18;
+const BASE: usize = 19;
 
-const BATCH: usize = 40;
+const BATCH: usize = 43;
 
-// The join of the case's base and batch into the lent columns.
-fn join_columns(
+// Cells for the populations of base and batch: two more than the limit, as in the other columns of the cases.
+const NODES: usize = meaning::NodeTable::MOST + 2;
+
+// The join of the case's base and batch, their populations beside them, into the lent columns.
+fn join_given(
     w: &[u32],
     bytes: &[u8],
+    base: &[u16],
+    young: &[u16],
     out_time: &mut [u32],
     out_birth: &mut [u32],
+    out_population: &mut [u16],
     out_left: &mut [u32],
     out_right: &mut [u32],
     out_parent: &mut [u32],
@@ -31,6 +38,7 @@ fn join_columns(
         cases::get(w, LENGTH),
         cases::column(w, BASE, 0),
         cases::column(w, BASE, 1),
+        base,
         cases::column(w, BASE, 2),
         cases::column(w, BASE, 3),
         cases::column(w, BASE, 4),
@@ -42,6 +50,7 @@ fn join_columns(
         cases::states(bytes, w, BASE, 10),
         cases::column(w, BATCH, 0),
         cases::column(w, BATCH, 1),
+        young,
         cases::column(w, BATCH, 2),
         cases::column(w, BATCH, 3),
         cases::column(w, BATCH, 4),
@@ -51,6 +60,7 @@ fn join_columns(
         cases::states(bytes, w, BATCH, 8),
         out_time,
         out_birth,
+        out_population,
         out_left,
         out_right,
         out_parent,
@@ -63,12 +73,56 @@ fn join_columns(
     ))
 }
 
+// The same with the populations in cells of their width.
+fn join_columns(
+    w: &[u32],
+    bytes: &[u8],
+    out_time: &mut [u32],
+    out_birth: &mut [u32],
+    out_population: &mut [u16],
+    out_left: &mut [u32],
+    out_right: &mut [u32],
+    out_parent: &mut [u32],
+    out_child: &mut [u32],
+    out_position: &mut [u32],
+    out_ancestral: &mut [u8],
+    out_site: &mut [u32],
+    out_node: &mut [u32],
+    out_derived: &mut [u8],
+) -> Seen {
+    let first = cases::column(w, BASE, 11);
+    let more = cases::column(w, BATCH, 9);
+    let mut base = [0u16; NODES];
+    let mut young = [0u16; NODES];
+    cases::narrow(first, &mut base);
+    cases::narrow(more, &mut young);
+    join_given(
+        w,
+        bytes,
+        cases::front_stocks(&base, first.len()),
+        cases::front_stocks(&young, more.len()),
+        out_time,
+        out_birth,
+        out_population,
+        out_left,
+        out_right,
+        out_parent,
+        out_child,
+        out_position,
+        out_ancestral,
+        out_site,
+        out_node,
+        out_derived,
+    )
+}
+
 // The same with the lent lengths of the mutations' columns.
 fn with_mutations(
     w: &[u32],
     bytes: &[u8],
     out_time: &mut [u32],
     out_birth: &mut [u32],
+    out_population: &mut [u16],
     out_left: &mut [u32],
     out_right: &mut [u32],
     out_parent: &mut [u32],
@@ -87,6 +141,7 @@ fn with_mutations(
         bytes,
         out_time,
         out_birth,
+        out_population,
         out_left,
         out_right,
         out_parent,
@@ -105,6 +160,7 @@ fn with_sites(
     bytes: &[u8],
     out_time: &mut [u32],
     out_birth: &mut [u32],
+    out_population: &mut [u16],
     out_left: &mut [u32],
     out_right: &mut [u32],
     out_parent: &mut [u32],
@@ -122,6 +178,7 @@ fn with_sites(
         bytes,
         out_time,
         out_birth,
+        out_population,
         out_left,
         out_right,
         out_parent,
@@ -140,6 +197,7 @@ fn with_edges(
     bytes: &[u8],
     out_time: &mut [u32],
     out_birth: &mut [u32],
+    out_population: &mut [u16],
     out_left: &mut [u32],
     out_right: &mut [u32],
     out_parent: &mut [u32],
@@ -159,6 +217,7 @@ fn with_edges(
         bytes,
         out_time,
         out_birth,
+        out_population,
         &mut out_left[..left],
         &mut out_right[..right],
         &mut out_parent[..parent],
@@ -177,6 +236,7 @@ pub fn with_nodes(
     bytes: &[u8],
     out_time: &mut [u32],
     out_birth: &mut [u32],
+    out_population: &mut [u16],
     out_left: &mut [u32],
     out_right: &mut [u32],
     out_parent: &mut [u32],
@@ -189,11 +249,13 @@ pub fn with_nodes(
 ) -> Seen {
     let time = cases::fit(w, LENT + 0, out_time.len());
     let birth = cases::fit(w, LENT + 1, out_birth.len());
+    let population = cases::fit(w, LENT + 11, out_population.len());
     with_edges(
         w,
         bytes,
         &mut out_time[..time],
         &mut out_birth[..birth],
+        &mut out_population[..population],
         out_left,
         out_right,
         out_parent,

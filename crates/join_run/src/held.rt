@@ -12,7 +12,7 @@ const SITES: usize = meaning::SiteTable::MOST + 2;
 const MUTATIONS: usize = meaning::MutationTable::MOST + 2;
 
 // Where start and length of each column due stand in a case's numbers.
-const DUE: usize = 58;
+const DUE: usize = 63;
 
 // Whether the k-th column is the one due.
 fn same(w: &[u32], k: usize, a: &[u32]) -> bool {
@@ -23,12 +23,19 @@ fn same_states(w: &[u32], k: usize, a: &[u8]) -> bool {
     cases::holds_states(a, cases::column(w, DUE, k))
 }
 
+fn same_stocks(w: &[u32], k: usize, a: &[u16]) -> bool {
+    cases::holds_stocks(a, cases::column(w, DUE, k))
+}
+
 // Whether the columns of a table are those due.
-fn same_nodes(w: &[u32], time: &[u32], birth: &[u32]) -> bool {
+fn same_nodes(w: &[u32], time: &[u32], birth: &[u32], population: &[u16]) -> bool {
     if !same(w, 0, time) {
         return false;
     }
-    same(w, 1, birth)
+    if !same(w, 1, birth) {
+        return false;
+    }
+    same_stocks(w, 11, population)
 }
 
 fn same_edges(w: &[u32], left: &[u32], right: &[u32], parent: &[u32], child: &[u32]) -> bool {
@@ -65,6 +72,7 @@ fn same_mutations(w: &[u32], site: &[u32], node: &[u32], derived: &[u8]) -> bool
 pub fn goes(w: &[u32], bytes: &[u8]) -> bool {
     let mut time = [cases::PATTERN; NODES];
     let mut birth = [cases::PATTERN; NODES];
+    let mut population = [cases::STOCK; NODES];
     let mut left = [cases::PATTERN; EDGES];
     let mut right = [cases::PATTERN; EDGES];
     let mut parent = [cases::PATTERN; EDGES];
@@ -79,6 +87,7 @@ pub fn goes(w: &[u32], bytes: &[u8]) -> bool {
         bytes,
         &mut time,
         &mut birth,
+        &mut population,
         &mut left,
         &mut right,
         &mut parent,
@@ -92,7 +101,7 @@ pub fn goes(w: &[u32], bytes: &[u8]) -> bool {
     if !answer::agrees(w, seen) {
         return false;
     }
-    if !same_nodes(w, &time, &birth) {
+    if !same_nodes(w, &time, &birth, &population) {
         return false;
     }
     if !same_edges(w, &left, &right, &parent, &child) {

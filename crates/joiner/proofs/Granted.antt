@@ -6,12 +6,14 @@ use native.Mathlib.Omega.{arith}
 use lib.ListN.{length}
 use Rattle.meaning.specs.Words.{at}
 use Rattle.meaning.specs.Rows.{Tables, EdgeColumns, MutationColumns}
+use Rattle.meaning.specs.Check.{keyOf}
 use Rattle.meaning.specs.Join.{BatchTables}
 use Rattle.accepted.specs.Tests.{Holds, of-not-shared}
 use Rattle.accepted.specs.Columns.{same-row}
 use Rattle.ancestry.specs.Column.{Rising}
 use Rattle.batches.specs.Joint.{Joint}
 use Rattle.batches.specs.Asked.{readBase, readBatch}
+use Rattle.batches.specs.Aged.{joint-aged}
 use Rattle.joint.specs.Asked.{Single, EdgesAsked}
 use Rattle.joint.specs.Sorting.{EdgeRoom}
 use Rattle.joint.specs.Mutations.{MutationRoom, MutationsAsked, MutationRows}
@@ -49,20 +51,19 @@ module _ (L : ℕ) (T : Tables) (B : BatchTables) (k : Joinable L T B) where
   pub batch-single : Single (B .edges)
   batch-single = single-of (B .edges) (λ i l. k .batch .rows .edge i l .some-position) (k .batch .rows .single)
 
-  -- the edges are written from the columns of nodes and edges alone
+  -- the edges are written from the columns of nodes and edges alone, the populations not among them
   pub edges-asked : (out : EdgeColumns) → EdgeRoom (length (T .edges .left) + length (B .edges .left)) out → EdgesAsked L (readBase (T .nodes .time) (T .nodes .birth) (T .edges) []) (readBatch (B .nodes .time) (B .nodes .birth) (B .edges) [] []) out
-  edges-asked out r =
-      let j : Joint L T B = joint in
-      record {
-        found = record {
-          joint = record { base-long = j .base-long; long = j .long; few = j .few; base-once = j .base-once; once = j .once; fresh = j .fresh; rising = j .rising; even = j .even; edge = j .edge };
-          few = k .batch .size .edges;
-          base-single = base-single;
-          base-rises = record { above = k .sound .tree .ordered };
-          single = batch-single;
-        };
-        room = r;
-      }
+  unfolding keyOf
+  edges-asked out r = record {
+    found = record {
+      joint = joint-aged L T B [] [] [] joint;
+      few = k .batch .size .edges;
+      base-single = base-single;
+      base-rises = record { above = k .sound .tree .ordered };
+      single = batch-single;
+    };
+    room = r;
+  }
 
   pub mutation-rows : MutationRows T B
   mutation-rows = record {

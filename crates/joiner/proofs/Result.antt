@@ -1,12 +1,12 @@
 -- The joined record's columns by those of base and batch: nodes, edges, sites and mutations, how many rows each has, and all four as they are written.
-use mathlib.Core.Path.{_≡_, refl, sym, ap, ap₂, _∙_}
+use mathlib.Core.Path.{_≡_, sym, ap, ap₂, _∙_}
 use mathlib.Core.Bool.{Bool, true}
 use mathlib.Core.List.{List, [], _∷_, _++_, map, map-append}
 use Prim.Native.Nat.{ℕ, _+_, _≤_}
 use native.Mathlib.Omega.{arith}
 use lib.ListN.{length, length-append, length-map}
 use Rattle.meaning.specs.Words.{at, rows, sort, count}
-use Rattle.meaning.specs.Rows.{Tables, NodeColumns, SiteColumns, MutationColumns, EdgeColumns, Node, Site, births, nodesOf, sitesOf, recordOf, tablesOf}
+use Rattle.meaning.specs.Rows.{Tables, NodeColumns, SiteColumns, MutationColumns, EdgeColumns, Node, Site, ageTable, births, nodeAt, nodesOf, sitesOf, recordOf, tablesOf}
 use Rattle.meaning.specs.Answer.{done, limits, accepted, put, left-by}
 use Rattle.meaning.specs.Lent.{cellsBy}
 use Rattle.meaning.specs.Join.{BatchTables, batchOf, join, joined}
@@ -19,9 +19,10 @@ use Rattle.accepted.specs.Refusals.{first-of, rest-of}
 use Rattle.accepted.specs.Rooms.{Fits}
 use Rattle.batches.specs.Joint.{jointEdges, jointMutations, allBirths, allTimes, JointPut}
 use Rattle.batches.specs.Asked.{readBase, readBatch}
+use Rattle.batches.specs.Aged.{joint-aged}
 use Rattle.batches.proofs.Together.{joint-rows}
 use Rattle.joint.specs.Asked.{EdgesAsked}
-use Rattle.joint.specs.Sorting.{edgeOrder}
+use Rattle.joint.specs.Sorting.{edgeOrder, edgesIn}
 use Rattle.joint.specs.Mutations.{siteOrder, mutationsBySite, MutationsPut, MutationsAsked}
 use Rattle.joiner.specs.Joinable.{Joinable}
 use Rattle.joint.proofs.Ordered.{joined-edges}
@@ -42,7 +43,11 @@ length-sort lt l = sym (count-all (sort lt l)) ∙ count-sort lt (λ v. true) l 
 
 times-of : (N : NodeColumns) → map (λ (n : Node). n .time) (nodesOf N) ≡ N .time
 unfolding nodesOf
-times-of N = map-rows (λ (n : Node). n .time) (λ i. record { time = at (N .time) i; birth = at (N .birth) i }) (length (N .time)) ∙ rows-at (N .time)
+times-of N = map-rows (λ (n : Node). n .time) (nodeAt N) (length (N .time)) ∙ rows-at (N .time)
+
+stocks-of : (N : NodeColumns) → length (N .population) ≡ length (N .time) → map (λ (n : Node). n .population) (nodesOf N) ≡ N .population
+unfolding nodesOf
+stocks-of N e = map-rows (λ (n : Node). n .population) (nodeAt N) (length (N .time)) ∙ ap (rows (at (N .population))) (sym e) ∙ rows-at (N .population)
 
 positions-of : (P : SiteColumns) → map (λ (s : Site). s .pos) (sitesOf P) ≡ P .position
 unfolding sitesOf
@@ -51,11 +56,6 @@ positions-of P = map-rows (λ (s : Site). s .pos) (λ i. record { pos = at (P .p
 states-of : (P : SiteColumns) → length (P .ancestral) ≡ length (P .position) → map (λ (s : Site). s .state) (sitesOf P) ≡ P .ancestral
 unfolding sitesOf
 states-of P e = map-rows (λ (s : Site). s .state) (λ i. record { pos = at (P .position) i; state = at (P .ancestral) i }) (length (P .position)) ∙ ap (rows (at (P .ancestral))) (sym e) ∙ rows-at (P .ancestral)
-
--- the edges are read off the columns of nodes and edges alone
-edges-read : (L : ℕ) (T : Tables) (B : BatchTables) → joined L (readBase (T .nodes .time) (T .nodes .birth) (T .edges) []) (readBatch (B .nodes .time) (B .nodes .birth) (B .edges) [] []) .edges ≡ joined L T B .edges
-unfolding joined tablesOf join recordOf batchOf
-edges-read L T B = refl
 
 module _ (L : ℕ) (T : Tables) (B : BatchTables) (k : Joinable L T B) where
   joined-times : joined L T B .nodes .time ≡ allTimes T B
@@ -66,6 +66,13 @@ module _ (L : ℕ) (T : Tables) (B : BatchTables) (k : Joinable L T B) where
   unfolding joined tablesOf join recordOf batchOf
   joined-births = births-join (nodesOf (T .nodes)) (nodesOf (B .nodes)) ∙ ap₂ _++_ (births-of (T .nodes) (k .sound .shape .births)) (births-of (B .nodes) (k .batch .shape .births))
 
+  abbrev pub allStocks : List ℕ
+  allStocks = T .nodes .population ++ B .nodes .population
+
+  joined-stocks : joined L T B .nodes .population ≡ allStocks
+  unfolding joined tablesOf join recordOf batchOf
+  joined-stocks = map-append (λ (n : Node). n .population) (nodesOf (T .nodes)) (nodesOf (B .nodes)) ∙ ap₂ _++_ (stocks-of (T .nodes) (k .sound .shape .populations)) (stocks-of (B .nodes) (k .batch .shape .populations))
+
   joined-positions : joined L T B .sites .position ≡ T .sites .position
   unfolding joined tablesOf join recordOf
   joined-positions = positions-of (T .sites)
@@ -73,6 +80,14 @@ module _ (L : ℕ) (T : Tables) (B : BatchTables) (k : Joinable L T B) where
   joined-states : joined L T B .sites .ancestral ≡ T .sites .ancestral
   unfolding joined tablesOf join recordOf
   joined-states = states-of (T .sites) (k .sound .shape .states)
+
+  -- the edges by rows: no population decides them
+  edges-are : joined L T B .edges ≡ edgesIn (edgeOrder (ageTable (allTimes T B) (allBirths T B)) (jointEdges (allBirths T B) (T .edges) (B .edges))) (jointEdges (allBirths T B) (T .edges) (B .edges))
+  edges-are = joined-edges L T B (joint L T B k) (k .batch .size .edges) (base-single L T B k) (batch-single L T B k)
+
+  -- so they are read off the columns of nodes and edges alone
+  edges-read : joined L (readBase (T .nodes .time) (T .nodes .birth) (T .edges) []) (readBatch (B .nodes .time) (B .nodes .birth) (B .edges) [] []) .edges ≡ joined L T B .edges
+  edges-read = joined-edges L (readBase (T .nodes .time) (T .nodes .birth) (T .edges) []) (readBatch (B .nodes .time) (B .nodes .birth) (B .edges) [] []) (joint-aged L T B [] [] [] (joint L T B k)) (k .batch .size .edges) (base-single L T B k) (batch-single L T B k) ∙ sym edges-are
 
   mutations-are : joined L T B .muts ≡ mutationsBySite (jointMutations (allBirths T B) (T .muts) (B .muts))
   mutations-are = joined-mutations L T B (joint L T B k) (mutation-rows L T B k)
@@ -88,9 +103,9 @@ module _ (L : ℕ) (T : Tables) (B : BatchTables) (k : Joinable L T B) where
   pub edges-count : length (joined L T B .edges .left) ≡ length (T .edges .left) + length (B .edges .left)
   unfolding edgeOrder
   edges-count =
-      let N : NodeColumns = record { time = allTimes T B; birth = allBirths T B } in
+      let N : NodeColumns = ageTable (allTimes T B) (allBirths T B) in
       let E : EdgeColumns = jointEdges (allBirths T B) (T .edges) (B .edges) in
-      ap (λ (e : EdgeColumns). length (e .left)) (joined-edges L T B (joint L T B k) (k .batch .size .edges) (base-single L T B k) (batch-single L T B k))
+      ap (λ (e : EdgeColumns). length (e .left)) edges-are
       ∙ length-map (edgeOrder N E) (at (E .left))
       ∙ length-sort _ (rows (λ i. i) (length (E .left)))
       ∙ length-rows (λ i. i) (length (E .left))
@@ -109,11 +124,12 @@ module _ (L : ℕ) (T : Tables) (B : BatchTables) (k : Joinable L T B) where
   -- ---- the room that the writing of each table asks
 
   module _ (out : Tables) (f : Fits limits (joined L T B) out) where
-    pub nodes-room : (length (T .nodes .time) + length (B .nodes .time) ≤ length (out .nodes .time)) × (length (T .nodes .birth) + length (B .nodes .birth) ≤ length (out .nodes .birth))
+    pub nodes-room : (length (T .nodes .time) + length (B .nodes .time) ≤ length (out .nodes .time)) × (length (T .nodes .birth) + length (B .nodes .birth) ≤ length (out .nodes .birth)) × (length (T .nodes .population) + length (B .nodes .population) ≤ length (out .nodes .population))
     nodes-room =
         let a : _ = first-of (f .nodes .roomy) in
         let b : _ = first-of (rest-of (f .nodes .roomy)) in
-        (omega (arith, nodes-count), omega (arith, nodes-count, k .sound .shape .births, k .batch .shape .births))
+        let p : _ = first-of (rest-of (rest-of (f .nodes .roomy))) in
+        (omega (arith, nodes-count), omega (arith, nodes-count, k .sound .shape .births, k .batch .shape .births), omega (arith, nodes-count, k .sound .shape .populations, k .batch .shape .populations))
 
     pub edges-room : EdgesAsked L (readBase (T .nodes .time) (T .nodes .birth) (T .edges) []) (readBatch (B .nodes .time) (B .nodes .birth) (B .edges) [] []) (out .edges)
     edges-room =
@@ -139,19 +155,23 @@ module _ (L : ℕ) (T : Tables) (B : BatchTables) (k : Joinable L T B) where
   -- ---- all four tables, as they are written
 
   pub all-written : (out now : Tables)
-      → (now .nodes .time ≡ put (allTimes T B) (out .nodes .time)) × (now .nodes .birth ≡ put (allBirths T B) (out .nodes .birth))
+      → (now .nodes .time ≡ put (allTimes T B) (out .nodes .time)) × (now .nodes .birth ≡ put (allBirths T B) (out .nodes .birth)) × (now .nodes .population ≡ put allStocks (out .nodes .population))
       → JointPut (joined L (readBase (T .nodes .time) (T .nodes .birth) (T .edges) []) (readBatch (B .nodes .time) (B .nodes .birth) (B .edges) [] []) .edges) (out .edges) (now .edges)
       → (now .sites .position ≡ put (T .sites .position) (out .sites .position)) × (now .sites .ancestral ≡ put (T .sites .ancestral) (out .sites .ancestral))
       → MutationsPut (mutationsBySite (jointMutations (allBirths T B) (T .muts) (B .muts))) (out .muts) (now .muts)
       → now ≡ cellsBy done (joined L T B) out
   unfolding cellsBy left-by accepted
   all-written out now n e s m = λ i. record {
-    nodes = record { time = (n .0 ∙ ap (λ l. put l (out .nodes .time)) (sym joined-times)) i; birth = (n .1 ∙ ap (λ l. put l (out .nodes .birth)) (sym joined-births)) i };
+    nodes = record {
+      time = (n .0 ∙ ap (λ l. put l (out .nodes .time)) (sym joined-times)) i;
+      birth = (n .1 ∙ ap (λ l. put l (out .nodes .birth)) (sym joined-births)) i;
+      population = (n .2 ∙ ap (λ l. put l (out .nodes .population)) (sym joined-stocks)) i;
+    };
     edges = record {
-      left = (e .left ∙ ap (λ (x : EdgeColumns). put (x .left) (out .edges .left)) (edges-read L T B)) i;
-      right = (e .right ∙ ap (λ (x : EdgeColumns). put (x .right) (out .edges .right)) (edges-read L T B)) i;
-      parent = (e .parent ∙ ap (λ (x : EdgeColumns). put (x .parent) (out .edges .parent)) (edges-read L T B)) i;
-      child = (e .child ∙ ap (λ (x : EdgeColumns). put (x .child) (out .edges .child)) (edges-read L T B)) i;
+      left = (e .left ∙ ap (λ (x : EdgeColumns). put (x .left) (out .edges .left)) edges-read) i;
+      right = (e .right ∙ ap (λ (x : EdgeColumns). put (x .right) (out .edges .right)) edges-read) i;
+      parent = (e .parent ∙ ap (λ (x : EdgeColumns). put (x .parent) (out .edges .parent)) edges-read) i;
+      child = (e .child ∙ ap (λ (x : EdgeColumns). put (x .child) (out .edges .child)) edges-read) i;
     };
     sites = record { position = (s .0 ∙ ap (λ l. put l (out .sites .position)) (sym joined-positions)) i; ancestral = (s .1 ∙ ap (λ l. put l (out .sites .ancestral)) (sym joined-states)) i };
     muts = record {

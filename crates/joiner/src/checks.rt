@@ -1,7 +1,7 @@
 // 1 to 10 of the base, then 20 to 26 of the batch.
 ghost use mathlib.Core.Path.{_≡_};
 ghost use lib.ListN.{length, take};
-ghost use Rattle.meaning.specs.Rows.{nodeTable, edgeTable, siteTable, mutationTable, tables};
+ghost use Rattle.meaning.specs.Rows.{ageTable, nodeTable, edgeTable, siteTable, mutationTable, tables};
 ghost use Rattle.meaning.specs.Answer.{done, limits, checkedOf};
 ghost use Rattle.meaning.specs.Check.{checkThen};
 ghost use Rattle.meaning.specs.Join.{batchTables, batchShapes, batchSizes, batchRules};
@@ -19,6 +19,7 @@ fn base_checked(
     len: u32,
     time: &[u32],
     birth: &[u32],
+    population: &[u16],
     by_birth: &mut [u32],
     left: &[u32],
     right: &[u32],
@@ -35,7 +36,7 @@ fn base_checked(
         (checkedOf r
         ≡ checkThen limits len
         (tables
-        (nodeTable (now (time .entry)) (now (birth .entry)))
+        (nodeTable (now (time .entry)) (now (birth .entry)) (now (population .entry)))
         (edgeTable (now (left .entry)) (now (right .entry)) (now (parent .entry)) (now (child .entry)))
         (siteTable (now (position .entry)) (now (ancestral .entry)))
         (mutationTable (now (site .entry)) (now (node .entry)) (now (derived .entry)))) done) × BirthsOrdered r (now (birth .entry)) (take (length (now (birth .entry))) (now («by_birth» .exit))) ⌝ }
@@ -45,6 +46,7 @@ fn base_checked(
         len,
         time,
         birth,
+        population,
         left,
         right,
         parent,
@@ -59,7 +61,7 @@ fn base_checked(
     )
 }
 
-// 20 to 26 over a base that is sound, has mutations so many and its nodes by birth; the front of by_birth is left with the batch's nodes by birth where nothing is refused.
+// 20 to 26 of a batch that has so many populations, over a base that is sound, has mutations so many and its nodes by birth; the front of by_birth is left with the batch's nodes by birth where nothing is refused.
 fn batch_checked(
     len: u32,
     basetime: &[u32],
@@ -73,6 +75,7 @@ fn batch_checked(
     basemutations: usize,
     time: &[u32],
     birth: &[u32],
+    populations: usize,
     by_birth: &mut [u32],
     left: &[u32],
     right: &[u32],
@@ -82,13 +85,13 @@ fn batch_checked(
     node: &[u32],
     derived: &[u8],
 ) -> Checked
-    requires { ⌜ BaseAsked (nodeTable (now basetime) (now basebirth)) (edgeTable (now baseleft) (now baseright) (now baseparent) (now basechild)) (now position) × Ranked (now basebirth) (now «base_by_birth») × (length (now «by_birth») ≡ 1024) ⌝ }
+    requires { ⌜ BaseAsked (ageTable (now basetime) (now basebirth)) (edgeTable (now baseleft) (now baseright) (now baseparent) (now basechild)) (now position) × Ranked (now basebirth) (now «base_by_birth») × (length (now «by_birth») ≡ 1024) ⌝ }
     ensures { λ r. ⌜
         (checkedOf r
-        ≡ refuseTable 20 (batchRagged (length (now (time .entry))) (length (now (birth .entry))) (length (now (left .entry))) (length (now (right .entry))) (length (now (parent .entry))) (length (now (child .entry))) (length (now (site .entry))) (length (now (node .entry))) (length (now (derived .entry)))) (refuseTable 21 (batchLarge limits (length (now (basetime .entry))) (length (now (baseleft .entry))) basemutations (length (now (time .entry))) (length (now (left .entry))) (length (now (site .entry)))) (batchRules len (readBase (now (basetime .entry)) (now (basebirth .entry))
+        ≡ refuseTable 20 (batchRagged (length (now (time .entry))) (length (now (birth .entry))) populations (length (now (left .entry))) (length (now (right .entry))) (length (now (parent .entry))) (length (now (child .entry))) (length (now (site .entry))) (length (now (node .entry))) (length (now (derived .entry)))) (refuseTable 21 (batchLarge limits (length (now (basetime .entry))) (length (now (baseleft .entry))) basemutations (length (now (time .entry))) (length (now (left .entry))) (length (now (site .entry)))) (batchRules len (readBase (now (basetime .entry)) (now (basebirth .entry))
         (edgeTable (now (baseleft .entry)) (now (baseright .entry)) (now (baseparent .entry)) (now (basechild .entry))) (now (position .entry)))
         (batchTables
-        (nodeTable (now (time .entry)) (now (birth .entry)))
+        (ageTable (now (time .entry)) (now (birth .entry)))
         (edgeTable (now (left .entry)) (now (right .entry)) (now (parent .entry)) (now (child .entry)))
         (mutationTable (now (site .entry)) (now (node .entry)) (now (derived .entry)))) done))) × BirthsOrdered r (now (birth .entry)) (take (length (now (birth .entry))) (now («by_birth» .exit))) ⌝ }
 {
@@ -99,6 +102,7 @@ fn batch_checked(
         basemutations,
         time.len(),
         birth.len(),
+        populations,
         left.len(),
         right.len(),
         parent.len(),
@@ -138,6 +142,7 @@ pub fn check_join(
     len: u32,
     basetime: &[u32],
     basebirth: &[u32],
+    basepopulation: &[u16],
     base_by_birth: &mut [u32],
     baseleft: &[u32],
     baseright: &[u32],
@@ -150,6 +155,7 @@ pub fn check_join(
     basederived: &[u8],
     time: &[u32],
     birth: &[u32],
+    population: &[u16],
     by_birth: &mut [u32],
     left: &[u32],
     right: &[u32],
@@ -164,30 +170,30 @@ pub fn check_join(
         (checkedOf r
         ≡ checkThen limits len
         (tables
-        (nodeTable (now (basetime .entry)) (now (basebirth .entry)))
+        (nodeTable (now (basetime .entry)) (now (basebirth .entry)) (now (basepopulation .entry)))
         (edgeTable (now (baseleft .entry)) (now (baseright .entry)) (now (baseparent .entry)) (now (basechild .entry)))
         (siteTable (now (position .entry)) (now (ancestral .entry)))
         (mutationTable (now (basesite .entry)) (now (basenode .entry)) (now (basederived .entry)))) (batchShapes
         (batchTables
-        (nodeTable (now (time .entry)) (now (birth .entry)))
+        (nodeTable (now (time .entry)) (now (birth .entry)) (now (population .entry)))
         (edgeTable (now (left .entry)) (now (right .entry)) (now (parent .entry)) (now (child .entry)))
         (mutationTable (now (site .entry)) (now (node .entry)) (now (derived .entry)))) (batchSizes limits
         (tables
-        (nodeTable (now (basetime .entry)) (now (basebirth .entry)))
+        (nodeTable (now (basetime .entry)) (now (basebirth .entry)) (now (basepopulation .entry)))
         (edgeTable (now (baseleft .entry)) (now (baseright .entry)) (now (baseparent .entry)) (now (basechild .entry)))
         (siteTable (now (position .entry)) (now (ancestral .entry)))
         (mutationTable (now (basesite .entry)) (now (basenode .entry)) (now (basederived .entry))))
         (batchTables
-        (nodeTable (now (time .entry)) (now (birth .entry)))
+        (nodeTable (now (time .entry)) (now (birth .entry)) (now (population .entry)))
         (edgeTable (now (left .entry)) (now (right .entry)) (now (parent .entry)) (now (child .entry)))
         (mutationTable (now (site .entry)) (now (node .entry)) (now (derived .entry)))) (batchRules len
         (tables
-        (nodeTable (now (basetime .entry)) (now (basebirth .entry)))
+        (nodeTable (now (basetime .entry)) (now (basebirth .entry)) (now (basepopulation .entry)))
         (edgeTable (now (baseleft .entry)) (now (baseright .entry)) (now (baseparent .entry)) (now (basechild .entry)))
         (siteTable (now (position .entry)) (now (ancestral .entry)))
         (mutationTable (now (basesite .entry)) (now (basenode .entry)) (now (basederived .entry))))
         (batchTables
-        (nodeTable (now (time .entry)) (now (birth .entry)))
+        (nodeTable (now (time .entry)) (now (birth .entry)) (now (population .entry)))
         (edgeTable (now (left .entry)) (now (right .entry)) (now (parent .entry)) (now (child .entry)))
         (mutationTable (now (site .entry)) (now (node .entry)) (now (derived .entry)))) done)))) × BirthsOrdered r (now (basebirth .entry)) (take (length (now (basebirth .entry))) (now («base_by_birth» .exit))) × BirthsOrdered r (now (birth .entry)) (take (length (now (birth .entry))) (now («by_birth» .exit))) ⌝ }
 {
@@ -196,6 +202,7 @@ pub fn check_join(
         len,
         basetime,
         basebirth,
+        basepopulation,
         base_by_birth,
         baseleft,
         baseright,
@@ -222,6 +229,7 @@ pub fn check_join(
             basesite.len(),
             time,
             birth,
+            population.len(),
             by_birth,
             left,
             right,

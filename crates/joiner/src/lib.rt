@@ -17,6 +17,7 @@ fn join_lent(
     len: u32,
     basetime: &[u32],
     basebirth: &[u32],
+    basepopulation: &[u16],
     base_by_birth: &mut [u32],
     baseleft: &[u32],
     baseright: &[u32],
@@ -29,6 +30,7 @@ fn join_lent(
     basederived: &[u8],
     time: &[u32],
     birth: &[u32],
+    population: &[u16],
     by_birth: &mut [u32],
     left: &[u32],
     right: &[u32],
@@ -39,6 +41,7 @@ fn join_lent(
     derived: &[u8],
     out_time: &mut [u32],
     out_birth: &mut [u32],
+    out_population: &mut [u16],
     out_left: &mut [u32],
     out_right: &mut [u32],
     out_parent: &mut [u32],
@@ -54,22 +57,22 @@ fn join_lent(
     ensures { λ r. ⌜
         joinedOf r
         (tables
-        (nodeTable (now («out_time» .exit)) (now («out_birth» .exit)))
+        (nodeTable (now («out_time» .exit)) (now («out_birth» .exit)) (now («out_population» .exit)))
         (edgeTable (now («out_left» .exit)) (now («out_right» .exit)) (now («out_parent» .exit)) (now («out_child» .exit)))
         (siteTable (now («out_position» .exit)) (now («out_ancestral» .exit)))
         (mutationTable (now («out_site» .exit)) (now («out_node» .exit)) (now («out_derived» .exit))))
         ≡ joining limits len
         (tables
-        (nodeTable (now (basetime .entry)) (now (basebirth .entry)))
+        (nodeTable (now (basetime .entry)) (now (basebirth .entry)) (now (basepopulation .entry)))
         (edgeTable (now (baseleft .entry)) (now (baseright .entry)) (now (baseparent .entry)) (now (basechild .entry)))
         (siteTable (now (position .entry)) (now (ancestral .entry)))
         (mutationTable (now (basesite .entry)) (now (basenode .entry)) (now (basederived .entry))))
         (batchTables
-        (nodeTable (now (time .entry)) (now (birth .entry)))
+        (nodeTable (now (time .entry)) (now (birth .entry)) (now (population .entry)))
         (edgeTable (now (left .entry)) (now (right .entry)) (now (parent .entry)) (now (child .entry)))
         (mutationTable (now (site .entry)) (now (node .entry)) (now (derived .entry))))
         (tables
-        (nodeTable (now («out_time» .entry)) (now («out_birth» .entry)))
+        (nodeTable (now («out_time» .entry)) (now («out_birth» .entry)) (now («out_population» .entry)))
         (edgeTable (now («out_left» .entry)) (now («out_right» .entry)) (now («out_parent» .entry)) (now («out_child» .entry)))
         (siteTable (now («out_position» .entry)) (now («out_ancestral» .entry)))
         (mutationTable (now («out_site» .entry)) (now («out_node» .entry)) (now («out_derived» .entry)))) cells ⌝ }
@@ -80,6 +83,7 @@ fn join_lent(
         len,
         basetime,
         basebirth,
+        basepopulation,
         base_by_birth,
         baseleft,
         baseright,
@@ -92,6 +96,7 @@ fn join_lent(
         basederived,
         time,
         birth,
+        population,
         by_birth,
         left,
         right,
@@ -106,6 +111,7 @@ fn join_lent(
             len,
             basetime,
             basebirth,
+            basepopulation,
             &base_by_birth[..n],
             baseleft,
             baseright,
@@ -118,6 +124,7 @@ fn join_lent(
             basederived,
             time,
             birth,
+            population,
             &by_birth[..m],
             left,
             right,
@@ -128,6 +135,7 @@ fn join_lent(
             derived,
             out_time,
             out_birth,
+            out_population,
             out_left,
             out_right,
             out_parent,
@@ -147,6 +155,7 @@ pub fn join_within(
     len: u32,
     basetime: &[u32],
     basebirth: &[u32],
+    basepopulation: &[u16],
     baseleft: &[u32],
     baseright: &[u32],
     baseparent: &[u32],
@@ -158,6 +167,7 @@ pub fn join_within(
     basederived: &[u8],
     time: &[u32],
     birth: &[u32],
+    population: &[u16],
     left: &[u32],
     right: &[u32],
     parent: &[u32],
@@ -167,6 +177,7 @@ pub fn join_within(
     derived: &[u8],
     out_time: &mut [u32],
     out_birth: &mut [u32],
+    out_population: &mut [u16],
     out_left: &mut [u32],
     out_right: &mut [u32],
     out_parent: &mut [u32],
@@ -181,22 +192,22 @@ pub fn join_within(
     ensures { λ r. ⌜
         joinedOf r
         (tables
-        (nodeTable (now («out_time» .exit)) (now («out_birth» .exit)))
+        (nodeTable (now («out_time» .exit)) (now («out_birth» .exit)) (now («out_population» .exit)))
         (edgeTable (now («out_left» .exit)) (now («out_right» .exit)) (now («out_parent» .exit)) (now («out_child» .exit)))
         (siteTable (now («out_position» .exit)) (now («out_ancestral» .exit)))
         (mutationTable (now («out_site» .exit)) (now («out_node» .exit)) (now («out_derived» .exit))))
         ≡ joining limits len
         (tables
-        (nodeTable (now (basetime .entry)) (now (basebirth .entry)))
+        (nodeTable (now (basetime .entry)) (now (basebirth .entry)) (now (basepopulation .entry)))
         (edgeTable (now (baseleft .entry)) (now (baseright .entry)) (now (baseparent .entry)) (now (basechild .entry)))
         (siteTable (now (position .entry)) (now (ancestral .entry)))
         (mutationTable (now (basesite .entry)) (now (basenode .entry)) (now (basederived .entry))))
         (batchTables
-        (nodeTable (now (time .entry)) (now (birth .entry)))
+        (nodeTable (now (time .entry)) (now (birth .entry)) (now (population .entry)))
         (edgeTable (now (left .entry)) (now (right .entry)) (now (parent .entry)) (now (child .entry)))
         (mutationTable (now (site .entry)) (now (node .entry)) (now (derived .entry))))
         (tables
-        (nodeTable (now («out_time» .entry)) (now («out_birth» .entry)))
+        (nodeTable (now («out_time» .entry)) (now («out_birth» .entry)) (now («out_population» .entry)))
         (edgeTable (now («out_left» .entry)) (now («out_right» .entry)) (now («out_parent» .entry)) (now («out_child» .entry)))
         (siteTable (now («out_position» .entry)) (now («out_ancestral» .entry)))
         (mutationTable (now («out_site» .entry)) (now («out_node» .entry)) (now («out_derived» .entry)))) cells ⌝ }
@@ -207,6 +218,7 @@ pub fn join_within(
         len,
         basetime,
         basebirth,
+        basepopulation,
         &mut base_by_birth,
         baseleft,
         baseright,
@@ -219,6 +231,7 @@ pub fn join_within(
         basederived,
         time,
         birth,
+        population,
         &mut by_birth,
         left,
         right,
@@ -229,6 +242,7 @@ pub fn join_within(
         derived,
         out_time,
         out_birth,
+        out_population,
         out_left,
         out_right,
         out_parent,
@@ -247,6 +261,7 @@ pub fn join(
     len: u32,
     basetime: &[u32],
     basebirth: &[u32],
+    basepopulation: &[u16],
     baseleft: &[u32],
     baseright: &[u32],
     baseparent: &[u32],
@@ -258,6 +273,7 @@ pub fn join(
     basederived: &[u8],
     time: &[u32],
     birth: &[u32],
+    population: &[u16],
     left: &[u32],
     right: &[u32],
     parent: &[u32],
@@ -267,6 +283,7 @@ pub fn join(
     derived: &[u8],
     out_time: &mut [u32],
     out_birth: &mut [u32],
+    out_population: &mut [u16],
     out_left: &mut [u32],
     out_right: &mut [u32],
     out_parent: &mut [u32],
@@ -280,22 +297,22 @@ pub fn join(
     ensures { λ r. ⌜
         joinedOf r
         (tables
-        (nodeTable (now («out_time» .exit)) (now («out_birth» .exit)))
+        (nodeTable (now («out_time» .exit)) (now («out_birth» .exit)) (now («out_population» .exit)))
         (edgeTable (now («out_left» .exit)) (now («out_right» .exit)) (now («out_parent» .exit)) (now («out_child» .exit)))
         (siteTable (now («out_position» .exit)) (now («out_ancestral» .exit)))
         (mutationTable (now («out_site» .exit)) (now («out_node» .exit)) (now («out_derived» .exit))))
         ≡ joining limits len
         (tables
-        (nodeTable (now (basetime .entry)) (now (basebirth .entry)))
+        (nodeTable (now (basetime .entry)) (now (basebirth .entry)) (now (basepopulation .entry)))
         (edgeTable (now (baseleft .entry)) (now (baseright .entry)) (now (baseparent .entry)) (now (basechild .entry)))
         (siteTable (now (position .entry)) (now (ancestral .entry)))
         (mutationTable (now (basesite .entry)) (now (basenode .entry)) (now (basederived .entry))))
         (batchTables
-        (nodeTable (now (time .entry)) (now (birth .entry)))
+        (nodeTable (now (time .entry)) (now (birth .entry)) (now (population .entry)))
         (edgeTable (now (left .entry)) (now (right .entry)) (now (parent .entry)) (now (child .entry)))
         (mutationTable (now (site .entry)) (now (node .entry)) (now (derived .entry))))
         (tables
-        (nodeTable (now («out_time» .entry)) (now («out_birth» .entry)))
+        (nodeTable (now («out_time» .entry)) (now («out_birth» .entry)) (now («out_population» .entry)))
         (edgeTable (now («out_left» .entry)) (now («out_right» .entry)) (now («out_parent» .entry)) (now («out_child» .entry)))
         (siteTable (now («out_position» .entry)) (now («out_ancestral» .entry)))
         (mutationTable (now («out_site» .entry)) (now («out_node» .entry)) (now («out_derived» .entry)))) 4 ⌝ }
@@ -304,6 +321,7 @@ pub fn join(
         len,
         basetime,
         basebirth,
+        basepopulation,
         baseleft,
         baseright,
         baseparent,
@@ -315,6 +333,7 @@ pub fn join(
         basederived,
         time,
         birth,
+        population,
         left,
         right,
         parent,
@@ -324,6 +343,7 @@ pub fn join(
         derived,
         out_time,
         out_birth,
+        out_population,
         out_left,
         out_right,
         out_parent,

@@ -28,6 +28,7 @@ fn no_room(
     mutations: usize,
     time: usize,
     birth: usize,
+    population: usize,
     left: usize,
     right: usize,
     parent: usize,
@@ -39,7 +40,7 @@ fn no_room(
     derived: usize,
     cells: usize,
 ) -> usize
-    ensures { λ r. ⌜ roomOf r ≡ joinRoom (record { nodes = nodes; edges = edges; sites = sites; mutations = mutations; rows = 0 }) (record { time = time; birth = birth; left = left; right = right; parent = parent; child = child; position = position; ancestral = ancestral; site = site; node = node; derived = derived; nodemap = 0 }) cells ⌝ }
+    ensures { λ r. ⌜ roomOf r ≡ joinRoom (record { nodes = nodes; edges = edges; sites = sites; mutations = mutations; rows = 0 }) (record { time = time; birth = birth; population = population; left = left; right = right; parent = parent; child = child; position = position; ancestral = ancestral; site = site; node = node; derived = derived; nodemap = 0 }) cells ⌝ }
 {
     let t = writing::no_room(
         nodes,
@@ -49,6 +50,7 @@ fn no_room(
         0,
         time,
         birth,
+        population,
         left,
         right,
         parent,
@@ -73,16 +75,26 @@ fn no_room(
 fn write_nodes(
     basetime: &[u32],
     basebirth: &[u32],
+    basepopulation: &[u16],
     time: &[u32],
     birth: &[u32],
+    population: &[u16],
     out_time: &mut [u32],
     out_birth: &mut [u32],
+    out_population: &mut [u16],
 )
-    requires { ⌜ (length (now basetime) + length (now time) ≤ length (now «out_time»)) × (length (now basebirth) + length (now birth) ≤ length (now «out_birth»)) ⌝ }
-    ensures { λ _. ⌜ (now («out_time» .exit) ≡ put (now (basetime .entry) ++ now (time .entry)) (now («out_time» .entry))) × (now («out_birth» .exit) ≡ put (now (basebirth .entry) ++ now (birth .entry)) (now («out_birth» .entry))) ⌝ }
+    requires { ⌜
+        (length (now basetime) + length (now time) ≤ length (now «out_time»)) ×
+        (length (now basebirth) + length (now birth) ≤ length (now «out_birth»)) ×
+        (length (now basepopulation) + length (now population) ≤ length (now «out_population»)) ⌝ }
+    ensures { λ _. ⌜
+        (now («out_time» .exit) ≡ put (now (basetime .entry) ++ now (time .entry)) (now («out_time» .entry))) ×
+        (now («out_birth» .exit) ≡ put (now (basebirth .entry) ++ now (birth .entry)) (now («out_birth» .entry))) ×
+        (now («out_population» .exit) ≡ put (now (basepopulation .entry) ++ now (population .entry)) (now («out_population» .entry))) ⌝ }
 {
     batches::columns::append(basetime, time, out_time);
     batches::columns::append(basebirth, birth, out_birth);
+    batches::columns::append_populations(basepopulation, population, out_population);
 }
 
 // Table 3: the base's sites, unchanged.
@@ -104,6 +116,7 @@ fn write_all(
     len: u32,
     basetime: &[u32],
     basebirth: &[u32],
+    basepopulation: &[u16],
     base_by_birth: &[u32],
     baseleft: &[u32],
     baseright: &[u32],
@@ -116,6 +129,7 @@ fn write_all(
     basederived: &[u8],
     time: &[u32],
     birth: &[u32],
+    population: &[u16],
     by_birth: &[u32],
     left: &[u32],
     right: &[u32],
@@ -126,6 +140,7 @@ fn write_all(
     derived: &[u8],
     out_time: &mut [u32],
     out_birth: &mut [u32],
+    out_population: &mut [u16],
     out_left: &mut [u32],
     out_right: &mut [u32],
     out_parent: &mut [u32],
@@ -139,51 +154,61 @@ fn write_all(
     requires { ⌜
         Joinable len
         (tables
-        (nodeTable (now basetime) (now basebirth))
+        (nodeTable (now basetime) (now basebirth) (now basepopulation))
         (edgeTable (now baseleft) (now baseright) (now baseparent) (now basechild))
         (siteTable (now position) (now ancestral))
         (mutationTable (now basesite) (now basenode) (now basederived)))
         (batchTables
-        (nodeTable (now time) (now birth))
+        (nodeTable (now time) (now birth) (now population))
         (edgeTable (now left) (now right) (now parent) (now child))
         (mutationTable (now site) (now node) (now derived))) × Fits limits (joined len
         (tables
-        (nodeTable (now basetime) (now basebirth))
+        (nodeTable (now basetime) (now basebirth) (now basepopulation))
         (edgeTable (now baseleft) (now baseright) (now baseparent) (now basechild))
         (siteTable (now position) (now ancestral))
         (mutationTable (now basesite) (now basenode) (now basederived)))
         (batchTables
-        (nodeTable (now time) (now birth))
+        (nodeTable (now time) (now birth) (now population))
         (edgeTable (now left) (now right) (now parent) (now child))
         (mutationTable (now site) (now node) (now derived))))
         (tables
-        (nodeTable (now «out_time») (now «out_birth»))
+        (nodeTable (now «out_time») (now «out_birth») (now «out_population»))
         (edgeTable (now «out_left») (now «out_right») (now «out_parent») (now «out_child»))
         (siteTable (now «out_position») (now «out_ancestral»))
         (mutationTable (now «out_site») (now «out_node») (now «out_derived»))) × Ranked (now basebirth) (now «base_by_birth») × Ranked (now birth) (now «by_birth») ⌝ }
     ensures { λ _. ⌜
         (tables
-        (nodeTable (now («out_time» .exit)) (now («out_birth» .exit)))
+        (nodeTable (now («out_time» .exit)) (now («out_birth» .exit)) (now («out_population» .exit)))
         (edgeTable (now («out_left» .exit)) (now («out_right» .exit)) (now («out_parent» .exit)) (now («out_child» .exit)))
         (siteTable (now («out_position» .exit)) (now («out_ancestral» .exit)))
         (mutationTable (now («out_site» .exit)) (now («out_node» .exit)) (now («out_derived» .exit))))
         ≡ cellsBy done (joined len
         (tables
-        (nodeTable (now (basetime .entry)) (now (basebirth .entry)))
+        (nodeTable (now (basetime .entry)) (now (basebirth .entry)) (now (basepopulation .entry)))
         (edgeTable (now (baseleft .entry)) (now (baseright .entry)) (now (baseparent .entry)) (now (basechild .entry)))
         (siteTable (now (position .entry)) (now (ancestral .entry)))
         (mutationTable (now (basesite .entry)) (now (basenode .entry)) (now (basederived .entry))))
         (batchTables
-        (nodeTable (now (time .entry)) (now (birth .entry)))
+        (nodeTable (now (time .entry)) (now (birth .entry)) (now (population .entry)))
         (edgeTable (now (left .entry)) (now (right .entry)) (now (parent .entry)) (now (child .entry)))
         (mutationTable (now (site .entry)) (now (node .entry)) (now (derived .entry)))))
         (tables
-        (nodeTable (now («out_time» .entry)) (now («out_birth» .entry)))
+        (nodeTable (now («out_time» .entry)) (now («out_birth» .entry)) (now («out_population» .entry)))
         (edgeTable (now («out_left» .entry)) (now («out_right» .entry)) (now («out_parent» .entry)) (now («out_child» .entry)))
         (siteTable (now («out_position» .entry)) (now («out_ancestral» .entry)))
         (mutationTable (now («out_site» .entry)) (now («out_node» .entry)) (now («out_derived» .entry)))) ⌝ }
 {
-    write_nodes(basetime, basebirth, time, birth, out_time, out_birth);
+    write_nodes(
+        basetime,
+        basebirth,
+        basepopulation,
+        time,
+        birth,
+        population,
+        out_time,
+        out_birth,
+        out_population,
+    );
     joint::edges::join_edges(
         len,
         basetime,
@@ -228,6 +253,7 @@ pub fn store(
     len: u32,
     basetime: &[u32],
     basebirth: &[u32],
+    basepopulation: &[u16],
     base_by_birth: &[u32],
     baseleft: &[u32],
     baseright: &[u32],
@@ -240,6 +266,7 @@ pub fn store(
     basederived: &[u8],
     time: &[u32],
     birth: &[u32],
+    population: &[u16],
     by_birth: &[u32],
     left: &[u32],
     right: &[u32],
@@ -250,6 +277,7 @@ pub fn store(
     derived: &[u8],
     out_time: &mut [u32],
     out_birth: &mut [u32],
+    out_population: &mut [u16],
     out_left: &mut [u32],
     out_right: &mut [u32],
     out_parent: &mut [u32],
@@ -264,33 +292,33 @@ pub fn store(
     requires { ⌜
         Joinable len
         (tables
-        (nodeTable (now basetime) (now basebirth))
+        (nodeTable (now basetime) (now basebirth) (now basepopulation))
         (edgeTable (now baseleft) (now baseright) (now baseparent) (now basechild))
         (siteTable (now position) (now ancestral))
         (mutationTable (now basesite) (now basenode) (now basederived)))
         (batchTables
-        (nodeTable (now time) (now birth))
+        (nodeTable (now time) (now birth) (now population))
         (edgeTable (now left) (now right) (now parent) (now child))
         (mutationTable (now site) (now node) (now derived))) × Ranked (now basebirth) (now «base_by_birth») × Ranked (now birth) (now «by_birth») ⌝ }
     ensures { λ r. ⌜
         joinedOf r
         (tables
-        (nodeTable (now («out_time» .exit)) (now («out_birth» .exit)))
+        (nodeTable (now («out_time» .exit)) (now («out_birth» .exit)) (now («out_population» .exit)))
         (edgeTable (now («out_left» .exit)) (now («out_right» .exit)) (now («out_parent» .exit)) (now («out_child» .exit)))
         (siteTable (now («out_position» .exit)) (now («out_ancestral» .exit)))
         (mutationTable (now («out_site» .exit)) (now («out_node» .exit)) (now («out_derived» .exit))))
         ≡ afterChecks len
         (tables
-        (nodeTable (now (basetime .entry)) (now (basebirth .entry)))
+        (nodeTable (now (basetime .entry)) (now (basebirth .entry)) (now (basepopulation .entry)))
         (edgeTable (now (baseleft .entry)) (now (baseright .entry)) (now (baseparent .entry)) (now (basechild .entry)))
         (siteTable (now (position .entry)) (now (ancestral .entry)))
         (mutationTable (now (basesite .entry)) (now (basenode .entry)) (now (basederived .entry))))
         (batchTables
-        (nodeTable (now (time .entry)) (now (birth .entry)))
+        (nodeTable (now (time .entry)) (now (birth .entry)) (now (population .entry)))
         (edgeTable (now (left .entry)) (now (right .entry)) (now (parent .entry)) (now (child .entry)))
         (mutationTable (now (site .entry)) (now (node .entry)) (now (derived .entry))))
         (tables
-        (nodeTable (now («out_time» .entry)) (now («out_birth» .entry)))
+        (nodeTable (now («out_time» .entry)) (now («out_birth» .entry)) (now («out_population» .entry)))
         (edgeTable (now («out_left» .entry)) (now («out_right» .entry)) (now («out_parent» .entry)) (now («out_child» .entry)))
         (siteTable (now («out_position» .entry)) (now («out_ancestral» .entry)))
         (mutationTable (now («out_site» .entry)) (now («out_node» .entry)) (now («out_derived» .entry)))) cells ⌝ }
@@ -305,6 +333,7 @@ pub fn store(
         mutations,
         out_time.len(),
         out_birth.len(),
+        out_population.len(),
         out_left.len(),
         out_right.len(),
         out_parent.len(),
@@ -323,6 +352,7 @@ pub fn store(
         len,
         basetime,
         basebirth,
+        basepopulation,
         base_by_birth,
         baseleft,
         baseright,
@@ -335,6 +365,7 @@ pub fn store(
         basederived,
         time,
         birth,
+        population,
         by_birth,
         left,
         right,
@@ -345,6 +376,7 @@ pub fn store(
         derived,
         out_time,
         out_birth,
+        out_population,
         out_left,
         out_right,
         out_parent,

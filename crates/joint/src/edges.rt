@@ -3,7 +3,7 @@ ghost use mathlib.Core.Path.{_≡_};
 ghost use mathlib.Core.List.{[], _++_};
 ghost use Prim.Native.Nat.{_+_};
 ghost use lib.ListN.{length, take};
-ghost use Rattle.meaning.specs.Rows.{nodeTable, edgeTable};
+ghost use Rattle.meaning.specs.Rows.{ageTable, edgeTable};
 ghost use Rattle.meaning.specs.Join.{joined};
 ghost use Rattle.order.specs.Ranks.{Helps};
 ghost use Rattle.batches.specs.Joint.{rowsIn, jointEdges, JointPut};
@@ -41,7 +41,7 @@ fn order_edges(
     ensures { λ _. ⌜
         (now (parentrow .exit) ≡ rowsIn (now (basebirth .entry) ++ now (birth .entry)) (now (parent .entry))) × (now (rows .exit)
         ≡ edgeOrder
-        (nodeTable (now (basetime .entry) ++ now (time .entry)) (now (basebirth .entry) ++ now (birth .entry)))
+        (ageTable (now (basetime .entry) ++ now (time .entry)) (now (basebirth .entry) ++ now (birth .entry)))
         (jointEdges (now (basebirth .entry) ++ now (birth .entry))
         (edgeTable (now (baseleft .entry)) (now (baseright .entry)) (now (baseparent .entry)) (now (basechild .entry)))
         (edgeTable (now (left .entry)) (now (right .entry)) (now (parent .entry)) (now (child .entry))))) ⌝ }

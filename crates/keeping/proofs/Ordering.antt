@@ -10,7 +10,7 @@ use lib.ListN.{length, take, drop}
 use lib.Seq.{take-at, drop-at}
 use borrow.Author.Tests.{eq-eqb, eqb-true}
 use Rattle.meaning.specs.Words.{at, mem, count, lex, indexOf}
-use Rattle.meaning.specs.Rows.{NodeColumns}
+use Rattle.meaning.specs.Rows.{NodeColumns, ageTable}
 use Rattle.meaning.specs.Answer.{put}
 use Rattle.laws.specs.Bools.{clash, eq?, not-true}
 use Rattle.laws.specs.Members.{mem-here, mem-there, index-at, index-below}
@@ -62,7 +62,7 @@ strictly lt (a ∷ l) (cons n d) h s = history.least
 -- ---- the keys
 
 -- the birth key again and again decides nothing more
-keys-before : (time birth : List ℕ) (a b : ℕ) → byKeys time birth birth birth a b ≡ beforeRow (record { time = time; birth = birth }) a b
+keys-before : (time birth : List ℕ) (a b : ℕ) → byKeys time birth birth birth a b ≡ beforeRow (ageTable time birth) a b
 unfolding byKeys key beforeRow
 keys-before time birth a b = first (trichotomy (at time a) (at time b))
   where
@@ -95,17 +95,17 @@ sorted-same lt gt l h s = record { apart = λ i j p q. sym (h (at l j) (at l i))
 -- ---- what the sort leaves
 
 module _ (time birth stood sample : List ℕ) (long : length birth ≡ length stood) (once : Apart birth) where
-  in-order : (m : List ℕ) → SortedFrom (byKeys time birth birth birth) (otherRows stood sample) m → history.Sorted (beforeRow (record { time = time; birth = birth })) m
+  in-order : (m : List ℕ) → SortedFrom (byKeys time birth birth birth) (otherRows stood sample) m → history.Sorted (beforeRow (ageTable time birth)) m
   in-order m s =
-      strictly (beforeRow (record { time = time; birth = birth })) m
+      strictly (beforeRow (ageTable time birth)) m
       (permuted-once (otherRows stood sample) m (s .permuted) (others-once stood sample))
-      (λ a b p q n e. before-apart (record { time = time; birth = birth }) a b (λ z. n (same-row birth once b a (inside b q) (inside a p) z)) e)
-      (sorted-same (byKeys time birth birth birth) (beforeRow (record { time = time; birth = birth })) m (keys-before time birth) (s .sorted))
+      (λ a b p q n e. before-apart (ageTable time birth) a b (λ z. n (same-row birth once b a (inside b q) (inside a p) z)) e)
+      (sorted-same (byKeys time birth birth birth) (beforeRow (ageTable time birth)) m (keys-before time birth) (s .sorted))
     where
       inside : (v : ℕ) → mem v m ≡ true → v < length birth
       inside v h = omega (arith, other-of stood sample v (permuted-mem m (otherRows stood sample) (permuted-sym (otherRows stood sample) m (s .permuted)) v h) .0)
 
-  others-listed : (k : ℕ) (old m new : List ℕ) → k ≤ length stood → take k new ≡ m → drop k new ≡ drop k old → SortedFrom (byKeys time birth birth birth) (otherRows stood sample) m → OthersListed (record { time = time; birth = birth }) stood sample k old new
+  others-listed : (k : ℕ) (old m new : List ℕ) → k ≤ length stood → take k new ≡ m → drop k new ≡ drop k old → SortedFrom (byKeys time birth birth birth) (otherRows stood sample) m → OthersListed (ageTable time birth) stood sample k old new
   others-listed k old m new few e past s = record {
     few = few;
     inside = rw e (all-mem m (λ v h. right v h .0));
@@ -119,7 +119,7 @@ module _ (time birth stood sample : List ℕ) (long : length birth ≡ length st
       right v h = other-of stood sample v (permuted-mem m (otherRows stood sample) (permuted-sym (otherRows stood sample) m (s .permuted)) v h)
 
   -- the first k cells of a column that holds the other rows, sorted as a part of it
-  pub part-sorted : (k : ℕ) (old mid m : List ℕ) → k ≡ length (otherRows stood sample) → mid ≡ put (otherRows stood sample) old → length m ≡ k → SortedFrom (byKeys time birth birth birth) (take k mid) m → OthersListed (record { time = time; birth = birth }) stood sample k old (m ++ drop k mid)
+  pub part-sorted : (k : ℕ) (old mid m : List ℕ) → k ≡ length (otherRows stood sample) → mid ≡ put (otherRows stood sample) old → length m ≡ k → SortedFrom (byKeys time birth birth birth) (take k mid) m → OthersListed (ageTable time birth) stood sample k old (m ++ drop k mid)
   part-sorted k old mid m q e z s =
       others-listed k old m (m ++ drop k mid)
       (omega (arith, others-few stood sample))

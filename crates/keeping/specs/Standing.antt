@@ -8,7 +8,7 @@ use Prim.Native.Nat.{ℕ, _<_}
 use native.Mathlib.Omega.{arith}
 use lib.ListN.{length, take}
 use Rattle.meaning.specs.Words.{at, mem, rows}
-use Rattle.meaning.specs.Rows.{Tables, Edge}
+use Rattle.meaning.specs.Rows.{Tables, Edge, ageTable}
 use Rattle.meaning.specs.Forest.{is}
 use Rattle.meaning.specs.Answer.{Limits}
 use Rattle.laws.specs.Counting.{get-rows}
@@ -16,7 +16,7 @@ use Rattle.laws.specs.Facts.{Any, now, later, All, also, Cov}
 use Rattle.encoding.specs.Runs.{Longest}
 use Rattle.encoding.specs.Edges.{is-of}
 use Rattle.order.specs.Counts.{bit}
-use Rattle.byrows.specs.Rows.{sampleRows, standsRow, upRow}
+use Rattle.byrows.specs.Rows.{sampleRows, standsRow, upRow, beforeRow}
 use Rattle.byrows.specs.Ground.{Ground}
 use Rattle.byrows.specs.Kept.{Others}
 use Rattle.byrows.specs.Standing.{stands-parent, parent-stands}
@@ -71,7 +71,8 @@ module _ (m : Limits) (L : ℕ) (T : Tables) (S : List ℕ) (g : Ground m L T S)
       somewhere-parent v x l s k = let c : _ = stands-parent m L T S g x v k s in any-to (λ e y. y .to-parent) (covers x (c .0) v l (c .1) (c .2))
 
       -- so the rows listed by these marks and the samples' are the other rows kept
-      pub listed-others : (stood sample : List ℕ) → length stood ≡ n → ((v : ℕ) → v < n → Mark F v (at stood v)) → sample ≡ rows (λ u. bit (mem u SR)) n → (k : ℕ) (old new : List ℕ) → OthersListed (T .nodes) stood sample k old new → Others m L T S g (take k new)
+      pub listed-others : (stood sample : List ℕ) → length stood ≡ n → ((v : ℕ) → v < n → Mark F v (at stood v)) → sample ≡ rows (λ u. bit (mem u SR)) n → (k : ℕ) (old new : List ℕ) → OthersListed (ageTable (T .nodes .time) (T .nodes .birth)) stood sample k old new → Others m L T S g (take k new)
+      unfolding beforeRow
       listed-others stood sample long marks e k old new o = record {
         inside = rw long at (o .inside);
         sorted = o .sorted;

@@ -5,7 +5,7 @@ ghost use mathlib.Core.List.{_++_, map};
 ghost use Prim.Native.Nat.{ℕ, _+_, _<_, _≤_};
 ghost use lib.ListN.{length, take};
 ghost use Rattle.meaning.specs.Words.{at, mem, rows};
-ghost use Rattle.meaning.specs.Rows.{nodeTable};
+ghost use Rattle.meaning.specs.Rows.{ageTable};
 ghost use Rattle.meaning.specs.Answer.{put};
 ghost use Rattle.meaning.specs.Clean.{no-row, rowIn};
 ghost use Rattle.accepted.specs.Checked.{Apart};
@@ -86,7 +86,7 @@ fn collect(stood: &[u8], sample: &[u8], out: &mut [u32]) -> usize
 // The rows that stand somewhere and are no samples, by (time, birth), at the front of out; how many they are.
 pub fn others(stood: &[u8], sample: &[u8], time: &[u32], birth: &[u32], out: &mut [u32]) -> usize
     requires { ⌜ (length (now sample) ≡ length (now stood)) × (length (now time) ≡ length (now stood)) × (length (now birth) ≡ length (now stood)) × (length (now stood) ≤ length (now out)) × (length (now stood) ≤ 4294967295) × Apart (now birth) ⌝ }
-    ensures { λ r. ⌜ OthersListed (nodeTable (now (time .entry)) (now (birth .entry))) (now (stood .entry)) (now (sample .entry)) r (now (out .entry)) (now (out .exit)) ⌝ }
+    ensures { λ r. ⌜ OthersListed (ageTable (now (time .entry)) (now (birth .entry))) (now (stood .entry)) (now (sample .entry)) r (now (out .entry)) (now (out .exit)) ⌝ }
 {
     let k = collect(stood, sample, out);
     order::sort_rows(time, birth, birth, birth, &mut out[..k]);

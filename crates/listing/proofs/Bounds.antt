@@ -21,6 +21,7 @@ Below k l = (i : ℕ) → at l i < k
 pub record Narrow (T : Tables) (rows : List ℕ) : Type 0 where
   pub time : Below 4294967296 (T .nodes .time)
   pub birth : Below 4294967296 (T .nodes .birth)
+  pub population : Below 65536 (T .nodes .population)
   pub left : Below 4294967296 (T .edges .left)
   pub right : Below 4294967296 (T .edges .right)
   pub parent : Below 4294967296 (T .edges .parent)
@@ -34,6 +35,9 @@ pub record Narrow (T : Tables) (rows : List ℕ) : Type 0 where
 
 word-digits : (n : ℕ) → n < 4294967296 → length (decimal n) ≤ 10
 word-digits n h = few-digits 9 n (omega arith)
+
+stock-digits : (n : ℕ) → n < 65536 → length (decimal n) ≤ 5
+stock-digits n h = few-digits 4 n (omega arith)
 
 state-digits : (n : ℕ) → n < 256 → length (decimal n) ≤ 3
 state-digits n h = few-digits 2 n (omega arith)
@@ -50,12 +54,13 @@ numbers-also : (k a b : ℕ) (ns : List ℕ) → length (numbers k (a ∷ b ∷ 
 unfolding numbers line rest
 numbers-also k a b ns = omega (arith, length-append (decimal a) (rest (map decimal (b ∷ ns))))
 
-node-most : (N : NodeColumns) (i : ℕ) → i < 18446744073709551616 → at (N .time) i < 4294967296 → at (N .birth) i < 4294967296 → length (nodeLine N i) ≤ 45
+node-most : (N : NodeColumns) (i : ℕ) → i < 18446744073709551616 → at (N .time) i < 4294967296 → at (N .birth) i < 4294967296 → at (N .population) i < 65536 → length (nodeLine N i) ≤ 51
 unfolding nodeLine
-node-most N i h a b =
+node-most N i h a b d =
     let t : ℕ = at (N .time) i in
     let u : ℕ = at (N .birth) i in
-    omega (arith, numbers-also 78 i t (u ∷ []), numbers-also 78 t u [], numbers-one 78 u, row-digits i h, word-digits t a, word-digits u b)
+    let p : ℕ = at (N .population) i in
+    omega (arith, numbers-also 78 i t (u ∷ p ∷ []), numbers-also 78 t u (p ∷ []), numbers-also 78 u p [], numbers-one 78 p, row-digits i h, word-digits t a, word-digits u b, stock-digits p d)
 
 edge-most : (E : EdgeColumns) (i : ℕ) → at (E .left) i < 4294967296 → at (E .right) i < 4294967296 → at (E .parent) i < 4294967296 → at (E .child) i < 4294967296 → length (edgeLine E i) ≤ 46
 unfolding edgeLine
@@ -115,7 +120,7 @@ listed-most L T rows h n a b =
     let S : List ℕ = lines (siteLine (T .sites)) (length (T .sites .position)) in
     let M : List ℕ = lines (mutationLine (T .muts)) (length (T .muts .site)) in
     let X : List ℕ = lines (mapLine rows) (length rows) in
-    let hn : length N ≤ length (T .nodes .time) * 45 = lines-most (nodeLine (T .nodes)) 45 (length (T .nodes .time)) (λ i l. node-most (T .nodes) i (omega arith) (n .time i) (n .birth i)) in
+    let hn : length N ≤ length (T .nodes .time) * 51 = lines-most (nodeLine (T .nodes)) 51 (length (T .nodes .time)) (λ i l. node-most (T .nodes) i (omega arith) (n .time i) (n .birth i) (n .population i)) in
     let he : length E ≤ length (T .edges .left) * 46 = lines-most (edgeLine (T .edges)) 46 (length (T .edges .left)) (λ i l. edge-most (T .edges) i (n .left i) (n .right i) (n .parent i) (n .child i)) in
     let hs : length S ≤ length (T .sites .position) * 17 = lines-most (siteLine (T .sites)) 17 (length (T .sites .position)) (λ i l. site-most (T .sites) i (n .position i) (n .ancestral i)) in
     let hm : length M ≤ length (T .muts .site) * 28 = lines-most (mutationLine (T .muts)) 28 (length (T .muts .site)) (λ i l. mutation-most (T .muts) i (n .site i) (n .node i) (n .derived i)) in

@@ -17,8 +17,8 @@ pub three-as : (k : ℕ) {a b c a′ b′ c′ : ℕ} → a ≡ a′ → b ≡ b
 three-as k e f g = cc
 
 -- the same where the first is a row's own number
-pub row-as : (k i : ℕ) {b c b′ c′ : ℕ} → b ≡ b′ → c ≡ c′ → numbers k (i ∷ b ∷ c ∷ []) ≡ numbers k (i ∷ b′ ∷ c′ ∷ [])
-row-as k i f g = cc
+pub row-as : (k i : ℕ) {b c d b′ c′ d′ : ℕ} → b ≡ b′ → c ≡ c′ → d ≡ d′ → numbers k (i ∷ b ∷ c ∷ d ∷ []) ≡ numbers k (i ∷ b′ ∷ c′ ∷ d′ ∷ [])
+row-as k i f g h = cc
 
 pub four-as : (k : ℕ) {a b c d a′ b′ c′ d′ : ℕ} → a ≡ a′ → b ≡ b′ → c ≡ c′ → d ≡ d′ → numbers k (a ∷ b ∷ c ∷ d ∷ []) ≡ numbers k (a′ ∷ b′ ∷ c′ ∷ d′ ∷ [])
 four-as k e f g h = cc

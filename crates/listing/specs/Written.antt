@@ -28,9 +28,9 @@ pub printed-once : {new old out out′ : List ℕ} {r r′ : ℕ} → Printed ne
 printed-once p q = (p .count ∙ sym (q .count), p .cells ∙ sym (q .cells))
 
 -- room that a listing never passes, by its rows of nodes, edges, sites, mutations and the node map: a row number has at
--- most 20 digits, another number 10, a state 3
+-- most 20 digits, a population 5, another number 10, a state 3
 abbrev pub room : ℕ → ℕ → ℕ → ℕ → ℕ → ℕ
-room nodes edges sites mutations rows = 13 + (nodes * 45 + (edges * 46 + (sites * 17 + (mutations * 28 + rows * 34))))
+room nodes edges sites mutations rows = 13 + (nodes * 51 + (edges * 46 + (sites * 17 + (mutations * 28 + rows * 34))))
 
 -- number j of a line's, after its space
 abbrev pub spaced : List ℕ → ℕ → List ℕ

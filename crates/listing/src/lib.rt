@@ -14,6 +14,7 @@ pub fn list(
     len: u32,
     time: &[u32],
     birth: &[u32],
+    population: &[u16],
     left: &[u32],
     right: &[u32],
     parent: &[u32],
@@ -30,13 +31,13 @@ pub fn list(
     ensures { λ r. ⌜
         Printed (listed len
         (tables
-        (nodeTable (now (time .entry)) (now (birth .entry)))
+        (nodeTable (now (time .entry)) (now (birth .entry)) (now (population .entry)))
         (edgeTable (now (left .entry)) (now (right .entry)) (now (parent .entry)) (now (child .entry)))
         (siteTable (now (position .entry)) (now (ancestral .entry)))
         (mutationTable (now (site .entry)) (now (node .entry)) (now (derived .entry)))) (now (map .entry))) (now (out .entry)) (now (out .exit)) r ⌝ }
 {
     let a = put::one(out, 0, 81, len as usize);
-    let b = tables::nodes(out, a, time, birth);
+    let b = tables::nodes(out, a, time, birth, population);
     let c = tables::edges(out, b, left, right, parent, child);
     let d = tables::sites(out, c, position, ancestral);
     let e = tables::mutations(out, d, site, node, derived);

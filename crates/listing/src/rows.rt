@@ -26,13 +26,30 @@ fn state(column: &[u8], i: usize) -> usize
     0
 }
 
-pub fn node(out: &mut [u8], at: usize, time: &[u32], birth: &[u32], i: usize) -> usize
-    requires { ⌜ at + length (nodeLine (nodeTable (now time) (now birth)) i) ≤ length (now out) ⌝ }
-    ensures { λ r. ⌜ Wrote at (nodeLine (nodeTable (now (time .entry)) (now (birth .entry))) i) (now (out .entry)) (now (out .exit)) r ⌝ }
+fn stock(column: &[u16], i: usize) -> usize
+    ensures { λ r. ⌜ r ≡ cellOf (now (column .entry)) i ⌝ }
+{
+    if i < column.len() {
+        return column[i] as usize;
+    }
+    0
+}
+
+pub fn node(
+    out: &mut [u8],
+    at: usize,
+    time: &[u32],
+    birth: &[u32],
+    population: &[u16],
+    i: usize,
+) -> usize
+    requires { ⌜ at + length (nodeLine (nodeTable (now time) (now birth) (now population)) i) ≤ length (now out) ⌝ }
+    ensures { λ r. ⌜ Wrote at (nodeLine (nodeTable (now (time .entry)) (now (birth .entry)) (now (population .entry))) i) (now (out .entry)) (now (out .exit)) r ⌝ }
 {
     let t = cell(time, i);
     let b = cell(birth, i);
-    put::three(out, at, 78, i, t, b)
+    let p = stock(population, i);
+    put::four(out, at, 78, i, t, b, p)
 }
 
 pub fn edge(

@@ -6,14 +6,14 @@ ghost use Rattle.meaning.specs.Rows.{nodeTable, edgeTable, siteTable, mutationT
 ghost use Rattle.meaning.specs.Printed.{lines, nodeLine, edgeLine, siteLine, mutationLine, mapLine};
 ghost use Rattle.listing.specs.Written.{Wrote};
 
-pub fn nodes(out: &mut [u8], start: usize, time: &[u32], birth: &[u32]) -> usize
-    requires { ⌜ start + length (lines (nodeLine (nodeTable (now time) (now birth))) (length (now time))) ≤ length (now out) ⌝ }
-    ensures { λ r. ⌜ Wrote start (lines (nodeLine (nodeTable (now (time .entry)) (now (birth .entry)))) (length (now (time .entry)))) (now (out .entry)) (now (out .exit)) r ⌝ }
+pub fn nodes(out: &mut [u8], start: usize, time: &[u32], birth: &[u32], population: &[u16]) -> usize
+    requires { ⌜ start + length (lines (nodeLine (nodeTable (now time) (now birth) (now population))) (length (now time))) ≤ length (now out) ⌝ }
+    ensures { λ r. ⌜ Wrote start (lines (nodeLine (nodeTable (now (time .entry)) (now (birth .entry)) (now (population .entry)))) (length (now (time .entry)))) (now (out .entry)) (now (out .exit)) r ⌝ }
 {
     let mut at = start;
     let mut i = 0;
     while i < time.len() {
-        at = rows::node(out, at, time, birth, i);
+        at = rows::node(out, at, time, birth, population, i);
         i += 1;
     }
     at

@@ -18,7 +18,7 @@ cells = 7 ∷ 7 ∷ 7 ∷ 7 ∷ 7 ∷ 7 ∷ 7 ∷ []
 
 abbrev pub lent : Tables
 lent = record {
-  nodes = record { time = cells; birth = cells };
+  nodes = record { time = cells; birth = cells; population = cells };
   edges = record { left = cells; right = cells; parent = cells; child = cells };
   sites = record { position = cells; ancestral = cells };
   muts = record { site = cells; node = cells; derived = cells };
@@ -30,7 +30,7 @@ pub record ByHand : Type 0 where
     answer = done;
     counts = record { nodes = 4; edges = 6; sites = 2; mutations = 3 };
     cells = record {
-      nodes = record { time = 0 ∷ 0 ∷ 1 ∷ 2 ∷ 7 ∷ 7 ∷ 7 ∷ []; birth = 501 ∷ 502 ∷ 401 ∷ 301 ∷ 7 ∷ 7 ∷ 7 ∷ [] };
+      nodes = record { time = 0 ∷ 0 ∷ 1 ∷ 2 ∷ 7 ∷ 7 ∷ 7 ∷ []; birth = 501 ∷ 502 ∷ 401 ∷ 301 ∷ 7 ∷ 7 ∷ 7 ∷ []; population = 0 ∷ 0 ∷ 0 ∷ 0 ∷ 7 ∷ 7 ∷ 7 ∷ [] };
       edges = record {
         left = 4 ∷ 4 ∷ 0 ∷ 6 ∷ 0 ∷ 6 ∷ 7 ∷ [];
         right = 6 ∷ 6 ∷ 4 ∷ 10 ∷ 4 ∷ 10 ∷ 7 ∷ [];
@@ -50,7 +50,7 @@ pub record ByHand : Type 0 where
     answer = done;
     counts = record { nodes = 2; edges = 1; sites = 2; mutations = 3 };
     cells = record {
-      nodes = record { time = 0 ∷ 1 ∷ 7 ∷ 7 ∷ 7 ∷ 7 ∷ 7 ∷ []; birth = 501 ∷ 401 ∷ 7 ∷ 7 ∷ 7 ∷ 7 ∷ 7 ∷ [] };
+      nodes = record { time = 0 ∷ 1 ∷ 7 ∷ 7 ∷ 7 ∷ 7 ∷ 7 ∷ []; birth = 501 ∷ 401 ∷ 7 ∷ 7 ∷ 7 ∷ 7 ∷ 7 ∷ []; population = 0 ∷ 0 ∷ 7 ∷ 7 ∷ 7 ∷ 7 ∷ 7 ∷ [] };
       edges = record {
         left = 0 ∷ 7 ∷ 7 ∷ 7 ∷ 7 ∷ 7 ∷ 7 ∷ [];
         right = 10 ∷ 7 ∷ 7 ∷ 7 ∷ 7 ∷ 7 ∷ 7 ∷ [];
@@ -81,9 +81,9 @@ pub record ByHand : Type 0 where
   -- last edge right 11: 5, row 5
   pub P6 : check limits 10 (with-edges (record { left = edges .left; right = 10 ∷ 6 ∷ 10 ∷ 4 ∷ 10 ∷ 11 ∷ []; parent = edges .parent; child = edges .child })) (501 ∷ 502 ∷ []) ≡ answer 5 5
   -- node 4 given time 2: 5, row 5
-  pub P7 : check limits 10 (with-nodes (record { time = 0 ∷ 0 ∷ 1 ∷ 2 ∷ 2 ∷ []; birth = nodes .birth })) (501 ∷ 502 ∷ []) ≡ answer 5 5
+  pub P7 : check limits 10 (with-nodes (record { time = 0 ∷ 0 ∷ 1 ∷ 2 ∷ 2 ∷ []; birth = nodes .birth; population = nodes .population })) (501 ∷ 502 ∷ []) ≡ answer 5 5
   -- L 0 with a repeated birth: 3
-  pub P8 : check limits 0 (with-nodes (record { time = nodes .time; birth = 501 ∷ 501 ∷ 401 ∷ 301 ∷ 201 ∷ [] })) (501 ∷ 502 ∷ []) ≡ answer 3 0
+  pub P8 : check limits 0 (with-nodes (record { time = nodes .time; birth = 501 ∷ 501 ∷ 401 ∷ 301 ∷ 201 ∷ []; population = nodes .population })) (501 ∷ 502 ∷ []) ≡ answer 3 0
   -- the last two mutations exchanged: 10, row 2
   pub P9 : check limits 10 (with-muts (record { site = muts .site; node = 3 ∷ 2 ∷ 4 ∷ []; derived = 84 ∷ 71 ∷ 84 ∷ [] })) (501 ∷ 502 ∷ []) ≡ answer 10 2
   -- allele of 501 at site 1 is 71, of 502 is 84

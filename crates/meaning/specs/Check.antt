@@ -100,7 +100,7 @@ lengthBroken L = or (eqb L 0) (ltb longest L)
 unfoldable pub shapes : Tables → Answer → Answer
 unfolding refuse ragged
 shapes T rest =
-    differs 1 (T .nodes .time ∷ T .nodes .birth ∷ [])
+    differs 1 (T .nodes .time ∷ T .nodes .birth ∷ T .nodes .population ∷ [])
     (differs 2 (T .edges .left ∷ T .edges .right ∷ T .edges .parent ∷ T .edges .child ∷ [])
     (differs 3 (T .sites .position ∷ T .sites .ancestral ∷ [])
     (differs 4 (T .muts .site ∷ T .muts .node ∷ T .muts .derived ∷ []) rest)))

@@ -65,7 +65,7 @@ abbrev pub tied : Record
 tied = record {
   len = 10;
   nodes = map
-      (λ (b : ℕ). record { time = elim (leb b 4) [ true ↦ 0 | false ↦ 1 ]; birth = b })
+      (λ (b : ℕ). record { time = elim (leb b 4) [ true ↦ 0 | false ↦ 1 ]; birth = b; population = 0 })
       (1 ∷ 2 ∷ 3 ∷ 4 ∷ 9 ∷ 5 ∷ []);
   edges = edge 9 1 ∷ edge 9 2 ∷ edge 5 3 ∷ edge 5 4 ∷ [];
   sites = [];
@@ -111,7 +111,7 @@ lent n = replicate n 7
 
 abbrev pub out : Tables
 out = record {
-  nodes = record { time = lent 4; birth = lent 4 };
+  nodes = record { time = lent 4; birth = lent 4; population = lent 4 };
   edges = record { left = lent 6; right = lent 6; parent = lent 6; child = lent 6 };
   sites = record { position = lent 2; ancestral = lent 2 };
   muts = record { site = lent 3; node = lent 3; derived = lent 3 };

@@ -1,17 +1,17 @@
 -- The two calls on the stored form: what each answers, and every lent cell afterwards.
-use mathlib.Core.Bool.{Bool, true, false}
+use mathlib.Core.Bool.{Bool, true, false, not}
 use mathlib.Core.List.{List, [], _∷_}
 use Prim.Native.Nat.{ℕ, _^_}
-use lib.Dec.{leb, ltb}
+use lib.Dec.{eqb, leb, ltb}
 use lib.ListN.{length, getD}
-use Rattle.meaning.specs.Words.{or, at}
+use Rattle.meaning.specs.Words.{or, at, zeros}
 use Rattle.meaning.specs.Rows.{Tables}
 use Rattle.meaning.specs.Answer.{Answer, Limits, done, refuse, refuseRow, accepted, lacks, left-by}
 use Rattle.meaning.specs.Lent.{Counts, fitThen, countsBy, cellsBy}
 use Rattle.meaning.specs.Check.{shapes, sizes, tooMany}
 use Rattle.meaning.specs.Stored.{SA, ND, ED, SI, number, form, after, formThen, formBytes, tablesFrom}
 
--- ---- tables 1 to 5 and the kinds' columns, in the order of the file
+-- ---- tables 1 to 5 and the kinds' columns, in the order of the file, which has no field for the population
 
 unfoldable pub filed : List ℕ → Tables → List (List (List ℕ))
 filed S T =
@@ -29,9 +29,11 @@ column X k j = getD (getD X k []) j []
 unfoldable pub samplesIn : List (List (List ℕ)) → List ℕ
 samplesIn X = column X 0 0
 
+-- M-106: "The stored form of 01 has no field for it: reading gives 0"
 unfoldable pub tablesIn : List (List (List ℕ)) → Tables
+unfolding zeros
 tablesIn X = record {
-  nodes = record { time = column X 1 0; birth = column X 1 1 };
+  nodes = record { time = column X 1 0; birth = column X 1 1; population = zeros (length (column X 1 0)) };
   edges = record { left = column X 2 0; right = column X 2 1; parent = column X 2 2; child = column X 2 3 };
   sites = record { position = column X 3 0; ancestral = column X 3 1 };
   muts = record { site = column X 4 0; node = column X 4 1; derived = column X 4 2 };
@@ -107,18 +109,23 @@ pub record Writing : Type 0 where
 unfoldable pub tooWide : ℕ → List ℕ → List ℕ → ℕ → Bool
 tooWide w a b i = or (leb (256 ^ w) (at a i)) (leb (256 ^ w) (at b i))
 
+-- M-106: "writing refuses another value" than 0
+unfoldable pub populated : List ℕ → ℕ → Bool
+populated population i = not (eqb (at population i) 0)
+
 unfoldable pub written : ℕ → Limits → ℕ → Tables → List ℕ → List ℕ
 unfolding form formBytes filed
 written w m L T S = formBytes (form w m) L (filed S T)
 
--- "Writing answers 1, 2, then 35 .., 36 .., then 13", with the bytes as table 7
+-- "Writing answers 1, 2, then 35 .., 36 .., then 13", with the bytes as table 7; M-106: "38 for that write, with the node row, after 36"
 unfoldable pub writeAnswer : ℕ → Limits → ℕ → Tables → List ℕ → ℕ → Answer
-unfolding shapes sizes refuse refuseRow tooWide written
+unfolding shapes sizes refuse refuseRow tooWide populated written
 writeAnswer w m L T S room =
     shapes T (sizes m T (tooMany 5 (m .samples) S
     (refuseRow 35 (tooWide w (T .edges .parent) (T .edges .child)) (length (T .edges .left))
     (refuseRow 36 (tooWide w (T .muts .site) (T .muts .node)) (length (T .muts .site))
-    (refuse (ltb room (length (written w m L T S))) 13 7 done)))))
+    (refuseRow 38 (populated (T .nodes .population)) (length (T .nodes .time))
+    (refuse (ltb room (length (written w m L T S))) 13 7 done))))))
 
 -- what an answer leaves: the bytes at the front of the lent ones, or nothing
 unfoldable pub laid : Answer → List ℕ → List ℕ → Writing

@@ -11,7 +11,7 @@ use Rattle.meaning.specs.Lent.{Counts, fitThen, blockThen, countsBy, cel
 use Rattle.meaning.specs.declared.Tabled.{Tabled}
 use Rattle.meaning.specs.Check.{repeated, edgeShared, mutationAbove, checkThen}
 
--- "A batch has nodes (time, birth), edges (left, right, parent birth, child birth) and mutations (site row, node birth, state), in any row order"
+-- "A batch has nodes (time, birth)", with the population of M-106 ("Batches carry it as well"), "edges (left, right, parent birth, child birth) and mutations (site row, node birth, state), in any row order"
 pub record BatchTables : Type 0 where
   pub nodes : NodeColumns
   pub edges : EdgeColumns
@@ -103,7 +103,7 @@ batchTooMany t most c d rest = refuse (ltb most (length c + length d)) 21 t rest
 unfoldable pub batchShapes : BatchTables → Answer → Answer
 unfolding refuse ragged
 batchShapes B rest =
-    batchDiffers 1 (B .nodes .time ∷ B .nodes .birth ∷ [])
+    batchDiffers 1 (B .nodes .time ∷ B .nodes .birth ∷ B .nodes .population ∷ [])
     (batchDiffers 2 (B .edges .left ∷ B .edges .right ∷ B .edges .parent ∷ B .edges .child ∷ [])
     (batchDiffers 4 (B .muts .site ∷ B .muts .node ∷ B .muts .derived ∷ []) rest))
 

@@ -20,7 +20,7 @@ pub record Counts : Type 0 where
 unfoldable pub fitThen : Limits → Tables → Tables → Answer → Answer
 unfolding refuse lacks
 fitThen m new out rest =
-    refuse (lacks (m .nodes) (out .nodes .time ∷ out .nodes .birth ∷ []) (length (new .nodes .time))) 13 1
+    refuse (lacks (m .nodes) (out .nodes .time ∷ out .nodes .birth ∷ out .nodes .population ∷ []) (length (new .nodes .time))) 13 1
     (refuse (lacks (m .edges) (out .edges .left ∷ out .edges .right ∷ out .edges .parent ∷ out .edges .child ∷ []) (length (new .edges .left))) 13 2
     (refuse (lacks (m .sites) (out .sites .position ∷ out .sites .ancestral ∷ []) (length (new .sites .position))) 13 3
     (refuse (lacks (m .mutations) (out .muts .site ∷ out .muts .node ∷ out .muts .derived ∷ []) (length (new .muts .site))) 13 4 rest)))
@@ -49,7 +49,11 @@ countsBy a new = elim (accepted a) [
 unfoldable pub putAll : Tables → Tables → Tables
 unfolding put
 putAll new out = record {
-  nodes = record { time = put (new .nodes .time) (out .nodes .time); birth = put (new .nodes .birth) (out .nodes .birth) };
+  nodes = record {
+    time = put (new .nodes .time) (out .nodes .time);
+    birth = put (new .nodes .birth) (out .nodes .birth);
+    population = put (new .nodes .population) (out .nodes .population);
+  };
   edges = record {
     left = put (new .edges .left) (out .edges .left);
     right = put (new .edges .right) (out .edges .right);
@@ -71,6 +75,7 @@ cellsBy a new out = record {
   nodes = record {
     time = left-by a (new .nodes .time) (out .nodes .time);
     birth = left-by a (new .nodes .birth) (out .nodes .birth);
+    population = left-by a (new .nodes .population) (out .nodes .population);
   };
   edges = record {
     left = left-by a (new .edges .left) (out .edges .left);

@@ -18,3 +18,4 @@ pub mod Panel
 pub mod ByHand
 pub mod Errors
 pub mod Small
+pub mod Stocks

@@ -39,10 +39,10 @@ lines f (suc n) = lines f n ++ f n
 
 -- ---- the rows of each table
 
--- "N: row, time, birth."
+-- "N: row, time, birth."; M-106: "The listing's N lines get it as a last field"
 unfoldable pub nodeLine : NodeColumns → ℕ → List ℕ
 unfolding numbers
-nodeLine N i = numbers 78 (i ∷ at (N .time) i ∷ at (N .birth) i ∷ [])
+nodeLine N i = numbers 78 (i ∷ at (N .time) i ∷ at (N .birth) i ∷ at (N .population) i ∷ [])
 
 -- "E: left, right, parent, child."
 unfoldable pub edgeLine : EdgeColumns → ℕ → List ℕ

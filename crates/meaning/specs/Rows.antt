@@ -10,6 +10,7 @@ use Rattle.meaning.specs.Words.{at, mem, rows, indexOf}
 pub record NodeColumns : Type 0 where
   pub time : List ℕ
   pub birth : List ℕ
+  pub population : List ℕ
 
 -- parent and child are rows of the nodes; in a batch they are birth numbers
 pub record EdgeColumns : Type 0 where
@@ -37,8 +38,12 @@ pub record Tables : Type 0 where
 
 -- ---- each table by its columns, and tables 1 to 4 by these, as contracts name them
 
-abbrev pub nodeTable : List ℕ → List ℕ → NodeColumns
-nodeTable time birth = record { time = time; birth = birth }
+abbrev pub nodeTable : List ℕ → List ℕ → List ℕ → NodeColumns
+nodeTable time birth population = record { time = time; birth = birth; population = population }
+
+-- time and birth alone, all that the rules, the order of edges and the forest look at (M-106: the population "plays no part in order or in what stands")
+abbrev pub ageTable : List ℕ → List ℕ → NodeColumns
+ageTable time birth = nodeTable time birth []
 
 abbrev pub edgeTable : List ℕ → List ℕ → List ℕ → List ℕ → EdgeColumns
 edgeTable left right parent child = record { left = left; right = right; parent = parent; child = child }
@@ -54,10 +59,11 @@ tables nodes edges sites muts = record { nodes = nodes; edges = edges; sites = s
 
 -- ---- rows
 
--- a node row, copied whole by cleaning and joining
+-- a node row, copied whole by cleaning and joining; M-106: "Give each node a population number"
 pub record Node : Type 0 where
   pub time : ℕ
   pub birth : ℕ
+  pub population : ℕ
 
 -- parent and child are birth numbers here
 pub record Edge : Type 0 where
@@ -88,7 +94,7 @@ pub record Record : Type 0 where
 
 -- row i of the nodes
 abbrev pub nodeAt : NodeColumns → ℕ → Node
-nodeAt N i = record { time = at (N .time) i; birth = at (N .birth) i }
+nodeAt N i = record { time = at (N .time) i; birth = at (N .birth) i; population = at (N .population) i }
 
 unfoldable pub nodesOf : NodeColumns → List Node
 unfolding rows
@@ -132,6 +138,7 @@ tablesOf R =
       nodes = record {
         time = map (λ (n : Node). n .time) (R .nodes);
         birth = births (R .nodes);
+        population = map (λ (n : Node). n .population) (R .nodes);
       };
       edges = record {
         left = map (λ (e : Edge). e .left) (R .edges);
@@ -153,7 +160,7 @@ tablesOf R =
 -- ---- reading a record
 
 abbrev pub no-node : Node
-no-node = record { time = 0; birth = 0 }
+no-node = record { time = 0; birth = 0; population = 0 }
 
 -- the row of the fish b
 unfoldable pub nodeOf : List Node → ℕ → Node

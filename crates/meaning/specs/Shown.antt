@@ -3,7 +3,8 @@ use mathlib.Core.Bool.{true, false}
 use mathlib.Core.List.{List}
 use Prim.Native.Nat.{ℕ, _≤_}
 use lib.Dec.{ltb}
-use lib.ListN.{length, take, replicate}
+use lib.ListN.{length, take}
+use Rattle.meaning.specs.Words.{zeros}
 use Rattle.meaning.specs.Rows.{Tables}
 use Rattle.meaning.specs.Forest.{stands}
 use Rattle.meaning.specs.Answer.{Answer, limits, storedLimits, accepted}
@@ -13,13 +14,10 @@ use Rattle.meaning.specs.Files.{Reading, reading}
 use Rattle.meaning.specs.Printed.{listed, refusedLine, tooLong}
 
 -- "with room for every table's limit": lent columns of zeros
-unfoldable pub zeros : ℕ → List ℕ
-zeros n = replicate n 0
-
 unfoldable pub blank : Tables
 unfolding zeros
 blank = record {
-  nodes = record { time = zeros (storedLimits .nodes); birth = zeros (storedLimits .nodes) };
+  nodes = record { time = zeros (storedLimits .nodes); birth = zeros (storedLimits .nodes); population = zeros (storedLimits .nodes) };
   edges = record { left = zeros (storedLimits .edges); right = zeros (storedLimits .edges); parent = zeros (storedLimits .edges); child = zeros (storedLimits .edges) };
   sites = record { position = zeros (storedLimits .sites); ancestral = zeros (storedLimits .sites) };
   muts = record { site = zeros (storedLimits .mutations); node = zeros (storedLimits .mutations); derived = zeros (storedLimits .mutations) };
@@ -28,7 +26,7 @@ blank = record {
 -- so many rows of each table
 unfoldable pub front : Counts → Tables → Tables
 front n T = record {
-  nodes = record { time = take (n .nodes) (T .nodes .time); birth = take (n .nodes) (T .nodes .birth) };
+  nodes = record { time = take (n .nodes) (T .nodes .time); birth = take (n .nodes) (T .nodes .birth); population = take (n .nodes) (T .nodes .population) };
   edges = record { left = take (n .edges) (T .edges .left); right = take (n .edges) (T .edges .right); parent = take (n .edges) (T .edges .parent); child = take (n .edges) (T .edges .child) };
   sites = record { position = take (n .sites) (T .sites .position); ancestral = take (n .sites) (T .sites .ancestral) };
   muts = record { site = take (n .mutations) (T .muts .site); node = take (n .mutations) (T .muts .node); derived = take (n .mutations) (T .muts .derived) };
@@ -38,6 +36,7 @@ front n T = record {
 pub record Long (n : Counts) (T : Tables) : Type 0 where
   pub time : n .nodes ≤ length (T .nodes .time)
   pub birth : n .nodes ≤ length (T .nodes .birth)
+  pub population : n .nodes ≤ length (T .nodes .population)
   pub left : n .edges ≤ length (T .edges .left)
   pub right : n .edges ≤ length (T .edges .right)
   pub parent : n .edges ≤ length (T .edges .parent)

@@ -16,7 +16,7 @@ use Rattle.meaning.specs.Listing.{nodes, edges, sites, listing, with-edg
 -- one parent and one child over (0,4) and (4,10)
 abbrev pub touching : Tables
 touching = record {
-  nodes = record { time = 0 ∷ 1 ∷ []; birth = 7 ∷ 8 ∷ [] };
+  nodes = record { time = 0 ∷ 1 ∷ []; birth = 7 ∷ 8 ∷ []; population = 0 ∷ 0 ∷ [] };
   edges = record { left = 0 ∷ 4 ∷ []; right = 4 ∷ 10 ∷ []; parent = 1 ∷ 1 ∷ []; child = 0 ∷ 0 ∷ [] };
   sites = record { position = []; ancestral = [] };
   muts = record { site = []; node = []; derived = [] };
@@ -43,7 +43,7 @@ cleaning = record { touching-are-one = refl; last-state = refl; all-stay = refl 
 -- 7 is the child of 8 over (0,4) only, and 9 is nobody's parent or child; 9 has a mutation at the second site
 abbrev pub scattered : Tables
 scattered = record {
-  nodes = record { time = 0 ∷ 1 ∷ 2 ∷ []; birth = 7 ∷ 8 ∷ 9 ∷ [] };
+  nodes = record { time = 0 ∷ 1 ∷ 2 ∷ []; birth = 7 ∷ 8 ∷ 9 ∷ []; population = 0 ∷ 0 ∷ 0 ∷ [] };
   edges = record { left = 0 ∷ []; right = 4 ∷ []; parent = 1 ∷ []; child = 0 ∷ [] };
   sites = record { position = 2 ∷ 6 ∷ []; ancestral = 65 ∷ 67 ∷ [] };
   muts = record { site = 1 ∷ []; node = 2 ∷ []; derived = 71 ∷ [] };
@@ -85,14 +85,14 @@ orders = record { five-before-six = refl; repeat-is-six = refl; shared = refl; u
 -- two births, 602 of 401 and 301, 601 of 401 alone; the rows in no order
 abbrev pub spawn : BatchTables
 spawn = record {
-  nodes = record { time = 0 ∷ 0 ∷ []; birth = 602 ∷ 601 ∷ [] };
+  nodes = record { time = 0 ∷ 0 ∷ []; birth = 602 ∷ 601 ∷ []; population = 9 ∷ 2 ∷ [] };
   edges = record { left = 5 ∷ 0 ∷ 0 ∷ []; right = 10 ∷ 10 ∷ 5 ∷ []; parent = 401 ∷ 401 ∷ 301 ∷ []; child = 602 ∷ 601 ∷ 602 ∷ [] };
   muts = record { site = 1 ∷ 0 ∷ []; node = 601 ∷ 602 ∷ []; derived = 66 ∷ 68 ∷ [] };
 }
 
 pub record Joining : Type 0 where
   pub rows : joined 10 listing spawn ≡ record {
-    nodes = record { time = 0 ∷ 0 ∷ 1 ∷ 2 ∷ 3 ∷ 0 ∷ 0 ∷ []; birth = 501 ∷ 502 ∷ 401 ∷ 301 ∷ 201 ∷ 602 ∷ 601 ∷ [] };
+    nodes = record { time = 0 ∷ 0 ∷ 1 ∷ 2 ∷ 3 ∷ 0 ∷ 0 ∷ []; birth = 501 ∷ 502 ∷ 401 ∷ 301 ∷ 201 ∷ 602 ∷ 601 ∷ []; population = 0 ∷ 0 ∷ 0 ∷ 0 ∷ 0 ∷ 9 ∷ 2 ∷ [] };
     edges = record {
       left = 0 ∷ 4 ∷ 0 ∷ 5 ∷ 0 ∷ 0 ∷ 6 ∷ 0 ∷ 0 ∷ [];
       right = 10 ∷ 6 ∷ 10 ∷ 10 ∷ 10 ∷ 4 ∷ 10 ∷ 5 ∷ 10 ∷ [];

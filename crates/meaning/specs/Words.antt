@@ -4,7 +4,7 @@ use mathlib.Core.List.{List, [], _∷_, _++_}
 use mathlib.Core.Option.{Option, none, some}
 use Prim.Native.Nat.{ℕ, zero, suc}
 use lib.Dec.{eqb, ltb}
-use lib.ListN.{getD}
+use lib.ListN.{getD, replicate}
 
 abbrev pub and : Bool → Bool → Bool
 and true b = b
@@ -73,6 +73,10 @@ rowsFrom f i (suc k) = f i ∷ rowsFrom f (suc i) k
 unfoldable pub rows : {A : Type 0} → (ℕ → A) → ℕ → List A
 unfolding rowsFrom
 rows f n = rowsFrom f 0 n
+
+-- n cells of 0
+unfoldable pub zeros : ℕ → List ℕ
+zeros n = replicate n 0
 
 -- ---- order
 

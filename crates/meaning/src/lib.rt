@@ -3,7 +3,7 @@
 ghost use mathlib.Core.Path.{_≡_};
 ghost use Rattle.meaning.specs.Answer.{Limits, limits, longest, refusalOf, toldOf};
 
-// Table 1: time and birth number of each node.
+// Table 1: time, birth number and population of each node.
 pub struct NodeTable {
     pub rows: usize,
 }
@@ -130,6 +130,7 @@ pub enum Refusal {
     RowsOver(usize),
     EdgeWide(usize),
     MutationWide(usize),
+    Populated(usize),
     NoSite,
     NoBirth,
 }
@@ -201,6 +202,7 @@ pub fn tell(x: Refusal) -> Told
         Refusal::RowsOver(row) => Told { number: 34, row },
         Refusal::EdgeWide(row) => Told { number: 35, row },
         Refusal::MutationWide(row) => Told { number: 36, row },
+        Refusal::Populated(row) => Told { number: 38, row },
         Refusal::NoSite => Told { number: 41, row: 0 },
         Refusal::NoBirth => Told { number: 42, row: 0 },
     }

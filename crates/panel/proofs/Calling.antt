@@ -20,6 +20,7 @@ use Rattle.meaning.specs.Allele.{allele}
 use Rattle.meaning.specs.Panel.{PanelOutcome, panelOf, panelEnd, panelAnswer, panel, singles, firstRefused}
 use Rattle.laws.specs.Bools.{not-of, not-no}
 use Rattle.checker.specs.Found.{TablesSound}
+use Rattle.checker.specs.Aged.{aged}
 use Rattle.checker.proofs.After.{Hands, hands, tables-after, refused, stops, goes-on, was-sound}
 use Rattle.checker.proofs.Rows.{lined}
 use Rattle.checker.proofs.Sound.{tables-sound}
@@ -134,11 +135,11 @@ module _ (L : ℕ) (T : Tables) (c : Checked) (e : checkedOf c ≡ checkThen lim
         ∙ end-refused (singles limits L T sites fish) states flags (refusalOf r) (refused r))
 
     -- after a check that refuses nothing the single calls are what is read
-    singles-read : c ≡ checked.Sound → readings L T sites fish ≡ singles limits L T sites fish
+    singles-read : c ≡ checked.Sound → readings L (aged T) sites fish ≡ singles limits L T sites fish
     unfolding readings singles
-    singles-read q = each-same (λ b. map (λ i. readAllele L T i b) sites) (λ b. map (λ i. allele limits L T i b) sites) (λ b. map-same (λ i. readAllele L T i b) (λ i. allele limits L T i b) (λ i. whole-read L T c e i b (readAllele L T i b) q refl) sites) fish
+    singles-read q = each-same (λ b. map (λ i. readAllele L (aged T) i b) sites) (λ b. map (λ i. allele limits L T i b) sites) (λ b. map-same (λ i. readAllele L (aged T) i b) (λ i. allele limits L T i b) (λ i. whole-read L T c e i b (readAllele L (aged T) i b) q refl) sites) fish
 
-    pub whole-sound : (o : PanelOutcome) → c ≡ checked.Sound → o ≡ afterCheck L T sites fish states flags → o ≡ panel limits L T sites fish states flags
+    pub whole-sound : (o : PanelOutcome) → c ≡ checked.Sound → o ≡ afterCheck L (aged T) sites fish states flags → o ≡ panel limits L T sites fish states flags
     unfolding panel panelAnswer afterCheck
     whole-sound o q f =
         f

@@ -3,7 +3,7 @@ ghost use mathlib.Core.Path.{_≡_};
 ghost use Prim.Native.Nat.{ℕ, _*_, _≤_};
 ghost use lib.ListN.{length};
 ghost use Rattle.meaning.specs.Words.{at};
-ghost use Rattle.meaning.specs.Rows.{nodeTable, edgeTable, siteTable, mutationTable, tables};
+ghost use Rattle.meaning.specs.Rows.{ageTable, edgeTable, siteTable, mutationTable, tables};
 ghost use Rattle.order.specs.Ranks.{Ranked};
 ghost use Rattle.alleles.specs.Reading.{Readable};
 ghost use Rattle.carrying.specs.Work.{indexBy, Prepared};
@@ -40,7 +40,7 @@ fn prepare(
     requires { ⌜
         Readable len
         (tables
-        (nodeTable (now time) (now birth))
+        (ageTable (now time) (now birth))
         (edgeTable (now left) (now right) (now parent) (now child))
         (siteTable (now position) (now ancestral))
         (mutationTable (now site) (now node) (now derived))) (now «by_child») ×
@@ -57,7 +57,7 @@ fn prepare(
     ensures { λ _. ⌜
         Prepared len
         (tables
-        (nodeTable (now (time .entry)) (now (birth .entry)))
+        (ageTable (now (time .entry)) (now (birth .entry)))
         (edgeTable (now (left .entry)) (now (right .entry)) (now (parent .entry)) (now (child .entry)))
         (siteTable (now (position .entry)) (now (ancestral .entry)))
         (mutationTable (now (site .entry)) (now (node .entry)) (now (derived .entry)))) (now («by_child» .entry))
@@ -92,7 +92,7 @@ pub fn fill_blocks(
     requires { ⌜
         Readable len
         (tables
-        (nodeTable (now time) (now birth))
+        (ageTable (now time) (now birth))
         (edgeTable (now left) (now right) (now parent) (now child))
         (siteTable (now position) (now ancestral))
         (mutationTable (now site) (now node) (now derived))) (now «by_child») ×
@@ -106,13 +106,13 @@ pub fn fill_blocks(
     ensures { λ _. ⌜
         FishWritten (stateByte
         (tables
-        (nodeTable (now (time .entry)) (now (birth .entry)))
+        (ageTable (now (time .entry)) (now (birth .entry)))
         (edgeTable (now (left .entry)) (now (right .entry)) (now (parent .entry)) (now (child .entry)))
         (siteTable (now (position .entry)) (now (ancestral .entry)))
         (mutationTable (now (site .entry)) (now (node .entry)) (now (derived .entry)))) (now (sites .entry)) (now (fish .entry))) (length (now (sites .entry))) (length (now (fish .entry))) (now (states .entry)) (now (states .exit)) ×
         FishWritten (flagByte
         (tables
-        (nodeTable (now (time .entry)) (now (birth .entry)))
+        (ageTable (now (time .entry)) (now (birth .entry)))
         (edgeTable (now (left .entry)) (now (right .entry)) (now (parent .entry)) (now (child .entry)))
         (siteTable (now (position .entry)) (now (ancestral .entry)))
         (mutationTable (now (site .entry)) (now (node .entry)) (now (derived .entry)))) (now (sites .entry)) (now (fish .entry))) (length (now (sites .entry))) (length (now (fish .entry))) (now (flags .entry)) (now (flags .exit)) ⌝ }

@@ -4,7 +4,7 @@ ghost use mathlib.Core.Path.{_≡_};
 ghost use Prim.Native.Nat.{ℕ, _<_, _≤_};
 ghost use lib.ListN.{length};
 ghost use Rattle.meaning.specs.Words.{at};
-ghost use Rattle.meaning.specs.Rows.{nodeTable, edgeTable, siteTable, mutationTable, tables};
+ghost use Rattle.meaning.specs.Rows.{ageTable, nodeTable, edgeTable, siteTable, mutationTable, tables};
 ghost use Rattle.meaning.specs.Answer.{limits};
 ghost use Rattle.meaning.specs.Panel.{panelOf, panel};
 ghost use Rattle.order.specs.Ranks.{Ranked};
@@ -45,7 +45,7 @@ fn panel_sound(
     requires { ⌜
         Readable len
         (tables
-        (nodeTable (now time) (now birth))
+        (ageTable (now time) (now birth))
         (edgeTable (now left) (now right) (now parent) (now child))
         (siteTable (now position) (now ancestral))
         (mutationTable (now site) (now node) (now derived))) (now «by_child») ×
@@ -57,7 +57,7 @@ fn panel_sound(
         panelOf r (now (states .exit)) (now (flags .exit))
         ≡ afterCheck len
         (tables
-        (nodeTable (now (time .entry)) (now (birth .entry)))
+        (ageTable (now (time .entry)) (now (birth .entry)))
         (edgeTable (now (left .entry)) (now (right .entry)) (now (parent .entry)) (now (child .entry)))
         (siteTable (now (position .entry)) (now (ancestral .entry)))
         (mutationTable (now (site .entry)) (now (node .entry)) (now (derived .entry)))) (now (sites .entry)) (now (fish .entry)) (now (states .entry)) (now (flags .entry)) ⌝ }
@@ -107,6 +107,7 @@ fn panel_lent(
     len: u32,
     time: &[u32],
     birth: &[u32],
+    population: &[u16],
     left: &[u32],
     right: &[u32],
     parent: &[u32],
@@ -128,7 +129,7 @@ fn panel_lent(
         panelOf r (now (states .exit)) (now (flags .exit))
         ≡ panel limits len
         (tables
-        (nodeTable (now (time .entry)) (now (birth .entry)))
+        (nodeTable (now (time .entry)) (now (birth .entry)) (now (population .entry)))
         (edgeTable (now (left .entry)) (now (right .entry)) (now (parent .entry)) (now (child .entry)))
         (siteTable (now (position .entry)) (now (ancestral .entry)))
         (mutationTable (now (site .entry)) (now (node .entry)) (now (derived .entry)))) (now (sites .entry)) (now (fish .entry)) (now (states .entry)) (now (flags .entry)) ⌝ }
@@ -139,6 +140,7 @@ fn panel_lent(
         len,
         time,
         birth,
+        population,
         left,
         right,
         parent,
@@ -180,6 +182,7 @@ pub fn alleles(
     len: u32,
     time: &[u32],
     birth: &[u32],
+    population: &[u16],
     left: &[u32],
     right: &[u32],
     parent: &[u32],
@@ -198,7 +201,7 @@ pub fn alleles(
         panelOf r (now (states .exit)) (now (flags .exit))
         ≡ panel limits len
         (tables
-        (nodeTable (now (time .entry)) (now (birth .entry)))
+        (nodeTable (now (time .entry)) (now (birth .entry)) (now (population .entry)))
         (edgeTable (now (left .entry)) (now (right .entry)) (now (parent .entry)) (now (child .entry)))
         (siteTable (now (position .entry)) (now (ancestral .entry)))
         (mutationTable (now (site .entry)) (now (node .entry)) (now (derived .entry)))) (now (sites .entry)) (now (fish .entry)) (now (states .entry)) (now (flags .entry)) ⌝ }
@@ -209,6 +212,7 @@ pub fn alleles(
         len,
         time,
         birth,
+        population,
         left,
         right,
         parent,

@@ -2,7 +2,7 @@
 ghost use mathlib.Core.Path.{_≡_};
 ghost use Prim.Native.Nat.{ℕ, _+_, _*_, _<_, _≤_};
 ghost use lib.ListN.{length};
-ghost use Rattle.meaning.specs.Rows.{nodeTable, edgeTable, siteTable, mutationTable, tables};
+ghost use Rattle.meaning.specs.Rows.{ageTable, edgeTable, siteTable, mutationTable, tables};
 ghost use Rattle.order.specs.Ranks.{Ranked};
 ghost use Rattle.carrying.specs.Work.{indexBy, Prepared, workOf, Kept};
 ghost use Rattle.panel.specs.Block.{SitesWritten, FishWritten};
@@ -91,14 +91,14 @@ fn fill_portion(
     requires { ⌜
         Prepared len
         (tables
-        (nodeTable (now time) (now birth))
+        (ageTable (now time) (now birth))
         (edgeTable (now left) (now right) (now parent) (now child))
         (siteTable (now position) (now ancestral))
         (mutationTable (now site) (now node) (now derived))) (now «by_child»)
         (indexBy (now ends) (now «edge_first») (now «edge_past») (now «mut_first») (now «mut_past»)) ×
         Kept
         (tables
-        (nodeTable (now time) (now birth))
+        (ageTable (now time) (now birth))
         (edgeTable (now left) (now right) (now parent) (now child))
         (siteTable (now position) (now ancestral))
         (mutationTable (now site) (now node) (now derived))) from t
@@ -114,19 +114,19 @@ fn fill_portion(
     ensures { λ r. ⌜
         SitesWritten (stateByte
         (tables
-        (nodeTable (now (time .entry)) (now (birth .entry)))
+        (ageTable (now (time .entry)) (now (birth .entry)))
         (edgeTable (now (left .entry)) (now (right .entry)) (now (parent .entry)) (now (child .entry)))
         (siteTable (now (position .entry)) (now (ancestral .entry)))
         (mutationTable (now (site .entry)) (now (node .entry)) (now (derived .entry)))) (now (sites .entry)) (now (fish .entry))) (length (now (sites .entry))) base k (length (now (sites .entry))) (now (states .entry)) (now (states .exit)) ×
         SitesWritten (flagByte
         (tables
-        (nodeTable (now (time .entry)) (now (birth .entry)))
+        (ageTable (now (time .entry)) (now (birth .entry)))
         (edgeTable (now (left .entry)) (now (right .entry)) (now (parent .entry)) (now (child .entry)))
         (siteTable (now (position .entry)) (now (ancestral .entry)))
         (mutationTable (now (site .entry)) (now (node .entry)) (now (derived .entry)))) (now (sites .entry)) (now (fish .entry))) (length (now (sites .entry))) base k (length (now (sites .entry))) (now (flags .entry)) (now (flags .exit)) ×
         Kept
         (tables
-        (nodeTable (now (time .entry)) (now (birth .entry)))
+        (ageTable (now (time .entry)) (now (birth .entry)))
         (edgeTable (now (left .entry)) (now (right .entry)) (now (parent .entry)) (now (child .entry)))
         (siteTable (now (position .entry)) (now (ancestral .entry)))
         (mutationTable (now (site .entry)) (now (node .entry)) (now (derived .entry)))) (r .last) (r .stamp)
@@ -221,7 +221,7 @@ pub fn fill_fish(
     requires { ⌜
         Prepared len
         (tables
-        (nodeTable (now time) (now birth))
+        (ageTable (now time) (now birth))
         (edgeTable (now left) (now right) (now parent) (now child))
         (siteTable (now position) (now ancestral))
         (mutationTable (now site) (now node) (now derived))) (now «by_child»)
@@ -229,7 +229,7 @@ pub fn fill_fish(
         Ranked (now birth) (now «by_birth») ×
         Kept
         (tables
-        (nodeTable (now time) (now birth))
+        (ageTable (now time) (now birth))
         (edgeTable (now left) (now right) (now parent) (now child))
         (siteTable (now position) (now ancestral))
         (mutationTable (now site) (now node) (now derived))) 0 0
@@ -243,13 +243,13 @@ pub fn fill_fish(
     ensures { λ _. ⌜
         FishWritten (stateByte
         (tables
-        (nodeTable (now (time .entry)) (now (birth .entry)))
+        (ageTable (now (time .entry)) (now (birth .entry)))
         (edgeTable (now (left .entry)) (now (right .entry)) (now (parent .entry)) (now (child .entry)))
         (siteTable (now (position .entry)) (now (ancestral .entry)))
         (mutationTable (now (site .entry)) (now (node .entry)) (now (derived .entry)))) (now (sites .entry)) (now (fish .entry))) (length (now (sites .entry))) (length (now (fish .entry))) (now (states .entry)) (now (states .exit)) ×
         FishWritten (flagByte
         (tables
-        (nodeTable (now (time .entry)) (now (birth .entry)))
+        (ageTable (now (time .entry)) (now (birth .entry)))
         (edgeTable (now (left .entry)) (now (right .entry)) (now (parent .entry)) (now (child .entry)))
         (siteTable (now (position .entry)) (now (ancestral .entry)))
         (mutationTable (now (site .entry)) (now (node .entry)) (now (derived .entry)))) (now (sites .entry)) (now (fish .entry))) (length (now (sites .entry))) (length (now (fish .entry))) (now (flags .entry)) (now (flags .exit)) ⌝ }

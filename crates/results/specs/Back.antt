@@ -6,7 +6,7 @@ use native.Mathlib.Omega.{arith}
 use lib.ListN.{length}
 use lib.Seq.{ext-getD}
 use Rattle.meaning.specs.Words.{at, rows, indexOf}
-use Rattle.meaning.specs.Rows.{Tables, Node, Edge, Site, Mutation, births, nodesOf, edgesOf, sitesOf, mutsOf, recordOf, tablesOf}
+use Rattle.meaning.specs.Rows.{Tables, Node, Edge, Site, Mutation, births, nodeAt, nodesOf, edgesOf, sitesOf, mutsOf, recordOf, tablesOf}
 use Rattle.meaning.specs.Answer.{Limits}
 use Rattle.laws.specs.Counting.{length-rows, get-rows, rows-at, map-rows}
 use Rattle.laws.specs.Members.{at-mem, index-at, index-below}
@@ -27,7 +27,7 @@ module _ (m : Limits) (L : ℕ) (T : Tables) (s : Sound m L T) where
 
   -- row i of each table
   abbrev nodeRow : ℕ → Node
-  nodeRow i = record { time = at (T .nodes .time) i; birth = at (T .nodes .birth) i }
+  nodeRow i = nodeAt (T .nodes) i
 
   abbrev edgeRow : ℕ → Edge
   edgeRow i = record { left = at (T .edges .left) i; right = at (T .edges .right) i; parent = at (T .nodes .birth) (at (T .edges .parent) i); child = at (T .nodes .birth) (at (T .edges .child) i) }
@@ -44,6 +44,10 @@ module _ (m : Limits) (L : ℕ) (T : Tables) (s : Sound m L T) where
   times-back : map (λ (n : Node). n .time) (nodesOf (T .nodes)) ≡ T .nodes .time
   unfolding nodesOf
   times-back = map-rows (λ (n : Node). n .time) nodeRow (length (T .nodes .time)) ∙ rows-at (T .nodes .time)
+
+  stocks-back : map (λ (n : Node). n .population) (nodesOf (T .nodes)) ≡ T .nodes .population
+  unfolding nodesOf
+  stocks-back = map-rows (λ (n : Node). n .population) nodeRow (length (T .nodes .time)) ∙ rows-are (at (T .nodes .population)) (T .nodes .population) (length (T .nodes .time)) (s .shape .populations) (λ i l. refl)
 
   -- a column of the edges, of the sites and of the mutations
   edges-back : (g : Edge → ℕ) (c : List ℕ) → length c ≡ length (T .edges .left) → ((i : ℕ) → i < length (T .edges .left) → g (edgeRow i) ≡ at c i) → map g (edgesOf (at (T .nodes .birth)) (T .edges)) ≡ c
@@ -65,7 +69,7 @@ module _ (m : Limits) (L : ℕ) (T : Tables) (s : Sound m L T) where
   pub back-again : tablesOf (recordOf L T) ≡ T
   unfolding tablesOf recordOf
   back-again = λ k. record {
-    nodes = record { time = times-back k; birth = births-are k };
+    nodes = record { time = times-back k; birth = births-are k; population = stocks-back k };
     edges = record {
       left = edges-back (λ (e : Edge). e .left) (T .edges .left) refl (λ i l. refl) k;
       right = edges-back (λ (e : Edge). e .right) (T .edges .right) (s .shape .rights) (λ i l. refl) k;

@@ -92,7 +92,7 @@ join-nothing L R s = record-eq (join R nothing) R refl
 
 -- its columns
 abbrev pub no-rows : BatchTables
-no-rows = record { nodes = record { time = []; birth = [] }; edges = record { left = []; right = []; parent = []; child = [] }; muts = record { site = []; node = []; derived = [] } }
+no-rows = record { nodes = record { time = []; birth = []; population = [] }; edges = record { left = []; right = []; parent = []; child = [] }; muts = record { site = []; node = []; derived = [] } }
 
 no-rows-mean : batchOf no-rows ≡ nothing
 unfolding batchOf nodesOf edgesOf mutsOf rows

@@ -16,4 +16,6 @@ pub mod Published
 pub mod Witness
 pub mod Only
 pub mod NodeTable
+pub mod Bare
+pub mod Stocks
 pub mod Meetings

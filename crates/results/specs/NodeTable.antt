@@ -64,7 +64,7 @@ module _ (rule : Rules) (pr : Profile rule) (m : Limits) (L : ℕ) (T : Tables) 
   pub rows-once : Distinct (cleaned rule L T S .nodes .birth)
   rows-once = subst Distinct (sym the-births) (kept-distinct rule (recordOf L T) S (ok .good .once) (ok .distinct))
 
-  -- "Time and birth are copied": every row is a row of the input, whole
+  -- "Time and birth are copied", and M-106's population: every row is a row of the input, whole
   pub rows-copied : (i : ℕ) → i < length (cleaned rule L T S .nodes .birth) → (j : ℕ) × (j < length (T .nodes .birth)) × (nodeAt (T .nodes) j ≡ nodeAt (cleaned rule L T S .nodes) i)
   unfolding recordOf
   rows-copied i l =

@@ -63,6 +63,7 @@ pub tables-even : (R : Record) → Shaped (tablesOf R)
 unfolding tablesOf
 tables-even R = record {
   births = births-long (R .nodes) ∙ sym (length-map (R .nodes) (λ (n : Node). n .time));
+  populations = length-map (R .nodes) (λ (n : Node). n .population) ∙ sym (length-map (R .nodes) (λ (n : Node). n .time));
   rights = length-map (R .edges) (λ (e : Edge). e .right) ∙ sym (length-map (R .edges) (λ (e : Edge). e .left));
   parents = length-map (R .edges) (λ (e : Edge). indexOf (e .parent) (births (R .nodes))) ∙ sym (length-map (R .edges) (λ (e : Edge). e .left));
   children = length-map (R .edges) (λ (e : Edge). indexOf (e .child) (births (R .nodes))) ∙ sym (length-map (R .edges) (λ (e : Edge). e .left));

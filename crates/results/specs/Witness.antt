@@ -30,7 +30,7 @@ lent n = replicate n 7
 
 abbrev pub room : Tables
 room = record {
-  nodes = record { time = lent 7; birth = lent 7 };
+  nodes = record { time = lent 7; birth = lent 7; population = lent 7 };
   edges = record { left = lent 9; right = lent 9; parent = lent 9; child = lent 9 };
   sites = record { position = lent 2; ancestral = lent 2 };
   muts = record { site = lent 5; node = lent 5; derived = lent 5 };

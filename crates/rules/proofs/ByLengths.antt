@@ -53,12 +53,12 @@ pub shapes-by-lengths : (T : Tables) (rest : Answer) → shapes T rest ≡ refus
 unfolding shapes raggedTable
 shapes-by-lengths T rest =
     rw (
-      ragged-two (T .nodes .time) (T .nodes .birth),
+      ragged-three (T .nodes .time) (T .nodes .birth) (T .nodes .population),
       ragged-four (T .edges .left) (T .edges .right) (T .edges .parent) (T .edges .child),
       ragged-two (T .sites .position) (T .sites .ancestral),
       ragged-three (T .muts .site) (T .muts .node) (T .muts .derived),
     ) (first-of-four 1
-    (other (T .nodes .time) (T .nodes .birth))
+    (or (other (T .nodes .time) (T .nodes .birth)) (other (T .nodes .time) (T .nodes .population)))
     (or (other (T .edges .left) (T .edges .right)) (or (other (T .edges .left) (T .edges .parent)) (other (T .edges .left) (T .edges .child))))
     (other (T .sites .position) (T .sites .ancestral))
     (or (other (T .muts .site) (T .muts .node)) (other (T .muts .site) (T .muts .derived)))

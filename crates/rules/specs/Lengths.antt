@@ -11,6 +11,7 @@ use Rattle.meaning.specs.Answer.{Answer, Limits, refuse}
 pub record Lengths : Type 0 where
   pub time : ℕ
   pub birth : ℕ
+  pub population : ℕ
   pub left : ℕ
   pub right : ℕ
   pub parent : ℕ
@@ -25,6 +26,7 @@ abbrev pub lengthsOf : Tables → Lengths
 lengthsOf T = record {
   time = length (T .nodes .time);
   birth = length (T .nodes .birth);
+  population = length (T .nodes .population);
   left = length (T .edges .left);
   right = length (T .edges .right);
   parent = length (T .edges .parent);
@@ -47,7 +49,7 @@ tableIf false t rest = rest
 -- 1: the lowest table of 1 to 4 whose columns differ in length
 unfoldable pub raggedTable : Lengths → ℕ
 raggedTable n =
-    tableIf (unlike (n .birth) (n .time)) 1
+    tableIf (or (unlike (n .birth) (n .time)) (unlike (n .population) (n .time))) 1
     (tableIf (or (unlike (n .right) (n .left)) (or (unlike (n .parent) (n .left)) (unlike (n .child) (n .left)))) 2
     (tableIf (unlike (n .ancestral) (n .position)) 3
     (tableIf (or (unlike (n .node) (n .site)) (unlike (n .derived) (n .site))) 4 0)))

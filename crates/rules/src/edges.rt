@@ -4,7 +4,7 @@ ghost use mathlib.Core.List.{[], _∷_};
 ghost use Prim.Native.Nat.{_<_, _≤_};
 ghost use lib.ListN.{length};
 ghost use Rattle.meaning.specs.Words.{lowest, lex};
-ghost use Rattle.meaning.specs.Rows.{nodeTable, edgeTable};
+ghost use Rattle.meaning.specs.Rows.{ageTable, edgeTable};
 ghost use Rattle.meaning.specs.Check.{edgeBroken, edgeUnordered, edgeShared, keyOf};
 ghost use Rattle.rules.specs.Asked.{EvenEdges, NamedNodes};
 ghost use Rattle.rules.specs.Lined.{Somewhere};
@@ -89,13 +89,13 @@ pub fn key_below(
     i: usize,
     j: usize,
 ) -> bool
-    requires { ⌜ (i < length (now left)) × (j < length (now left)) × NamedNodes (nodeTable (now time) (now birth)) (edgeTable (now left) (now right) (now parent) (now child)) ⌝ }
+    requires { ⌜ (i < length (now left)) × (j < length (now left)) × NamedNodes (ageTable (now time) (now birth)) (edgeTable (now left) (now right) (now parent) (now child)) ⌝ }
     ensures { λ r. ⌜
         r
         ≡ lex (keyOf
-        (nodeTable (now (time .entry)) (now (birth .entry)))
+        (ageTable (now (time .entry)) (now (birth .entry)))
         (edgeTable (now (left .entry)) (now (right .entry)) (now (parent .entry)) (now (child .entry))) i) (keyOf
-        (nodeTable (now (time .entry)) (now (birth .entry)))
+        (ageTable (now (time .entry)) (now (birth .entry)))
         (edgeTable (now (left .entry)) (now (right .entry)) (now (parent .entry)) (now (child .entry))) j) ⌝ }
 {
     let p = parent[i] as usize;
@@ -124,8 +124,8 @@ fn unordered_at(
     child: &[u32],
     i: usize,
 ) -> bool
-    requires { ⌜ (i < length (now left)) × NamedNodes (nodeTable (now time) (now birth)) (edgeTable (now left) (now right) (now parent) (now child)) ⌝ }
-    ensures { λ r. ⌜ r ≡ edgeUnordered (nodeTable (now (time .entry)) (now (birth .entry))) (edgeTable (now (left .entry)) (now (right .entry)) (now (parent .entry)) (now (child .entry))) i ⌝ }
+    requires { ⌜ (i < length (now left)) × NamedNodes (ageTable (now time) (now birth)) (edgeTable (now left) (now right) (now parent) (now child)) ⌝ }
+    ensures { λ r. ⌜ r ≡ edgeUnordered (ageTable (now (time .entry)) (now (birth .entry))) (edgeTable (now (left .entry)) (now (right .entry)) (now (parent .entry)) (now (child .entry))) i ⌝ }
 {
     if i == 0 {
         return false;
@@ -142,11 +142,11 @@ pub fn first_unordered(
     parent: &[u32],
     child: &[u32],
 ) -> usize
-    requires { ⌜ NamedNodes (nodeTable (now time) (now birth)) (edgeTable (now left) (now right) (now parent) (now child)) ⌝ }
+    requires { ⌜ NamedNodes (ageTable (now time) (now birth)) (edgeTable (now left) (now right) (now parent) (now child)) ⌝ }
     ensures { λ r. ⌜
         r
         ≡ lowest (edgeUnordered
-        (nodeTable (now (time .entry)) (now (birth .entry)))
+        (ageTable (now (time .entry)) (now (birth .entry)))
         (edgeTable (now (left .entry)) (now (right .entry)) (now (parent .entry)) (now (child .entry)))) (length (now (left .entry))) ⌝ }
 {
     let mut i = 0;

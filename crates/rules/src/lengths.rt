@@ -13,6 +13,7 @@ ghost use Rattle.rules.specs.Lengths.{raggedTable, largeTable};
 pub fn ragged_table(
     time: usize,
     birth: usize,
+    population: usize,
     left: usize,
     right: usize,
     parent: usize,
@@ -23,9 +24,12 @@ pub fn ragged_table(
     node: usize,
     derived: usize,
 ) -> usize
-    ensures { λ r. ⌜ r ≡ raggedTable (record { time = time; birth = birth; left = left; right = right; parent = parent; child = child; position = position; ancestral = ancestral; site = site; node = node; derived = derived }) ⌝ }
+    ensures { λ r. ⌜ r ≡ raggedTable (record { time = time; birth = birth; population = population; left = left; right = right; parent = parent; child = child; position = position; ancestral = ancestral; site = site; node = node; derived = derived }) ⌝ }
 {
     if birth != time {
+        return NodeTable::NUMBER;
+    }
+    if population != time {
         return NodeTable::NUMBER;
     }
     if right != left {

@@ -69,13 +69,14 @@ one (also p All.done) = p
 fronts-of : (a : Answer) (new out : Tables) → Fits limits new out → Long (rowsIn new) (cellsBy a new out)
 unfolding cellsBy
 fronts-of a new out f =
-    let n : _ = both (f .nodes .roomy) in
+    let n : _ = three (f .nodes .roomy) in
     let e : _ = four (f .edges .roomy) in
     let s : _ = both (f .sites .roomy) in
     let m : _ = three (f .muts .roomy) in
     record {
       time = left-long a (new .nodes .time) (out .nodes .time) _ (n .0);
       birth = left-long a (new .nodes .birth) (out .nodes .birth) _ (n .1);
+      population = left-long a (new .nodes .population) (out .nodes .population) _ (n .2);
       left = left-long a (new .edges .left) (out .edges .left) _ (e .0);
       right = left-long a (new .edges .right) (out .edges .right) _ (e .1);
       parent = left-long a (new .edges .parent) (out .edges .parent) _ (e .2);
@@ -117,7 +118,7 @@ clean-listable L T S out outMap n cells nodemap e =
     }
 
 -- the room that 01's limits ask
-pub listing-room : (n : Counts) (rows bytes : ℕ) → Few n → rows ≤ storedLimits .nodes → 307200 ≤ bytes → room (n .nodes) (n .edges) (n .sites) (n .mutations) rows ≤ bytes
+pub listing-room : (n : Counts) (rows bytes : ℕ) → Few n → rows ≤ storedLimits .nodes → 313344 ≤ bytes → room (n .nodes) (n .edges) (n .sites) (n .mutations) rows ≤ bytes
 listing-room n rows bytes f r b = omega arith
 
 -- ---- reading

@@ -5,6 +5,7 @@ use Prim.Native.Nat.{ℕ, _<_, _≤_}
 use borrow.Author.Tests.{lt-ltb, le-ltb}
 use native.Mathlib.Omega.{arith}
 use lib.ListN.{length, take, drop, length-append}
+use Rattle.meaning.specs.Words.{zeros}
 use Rattle.meaning.specs.Rows.{Tables}
 use Rattle.meaning.specs.Forest.{stands}
 use Rattle.meaning.specs.Answer.{done, limits, storedLimits, accepted, put, refusalOf}
@@ -15,7 +16,7 @@ use Rattle.accepted.specs.Numbers.{refusal-refuses}
 use Rattle.meaning.specs.Files.{reading}
 use Rattle.meaning.specs.Printed.{listed, refusedLine, tooLong}
 use Rattle.listing.specs.Written.{Printed}
-use Rattle.meaning.specs.Shown.{zeros, blank, front, printedBy, outcomeShown, cleanShown, readingShown, shown, answered}
+use Rattle.meaning.specs.Shown.{blank, front, printedBy, outcomeShown, cleanShown, readingShown, shown, answered}
 
 pub printed-as : {new new' old out : List ℕ} {r : ℕ} → new ≡ new' → Printed new old out r → Printed new' old out r
 printed-as {old = old} {out = out} {r = r} e p = subst (λ (b : List ℕ). Printed b old out r) e p

@@ -1,5 +1,5 @@
 // Cleaning a stored file and listing the result: what the program prints. What the bytes mean is in specs/.
-// The columns read and those cleaned stand on the stack, in 86,528 and 89,600 bytes; the cleaner has its own beside them.
+// The columns read and those cleaned stand on the stack, in 88,576 and 91,648 bytes; the cleaner has its own beside them.
 ghost use mathlib.Core.Path.{_≡_};
 ghost use Prim.Native.Nat.{_≤_};
 ghost use lib.ListN.{length, take};
@@ -27,6 +27,7 @@ fn list_rows(
     len: u32,
     time: &[u32],
     birth: &[u32],
+    population: &[u16],
     left: &[u32],
     right: &[u32],
     parent: &[u32],
@@ -47,14 +48,14 @@ fn list_rows(
     requires { ⌜
         Long (record { nodes = n; edges = e; sites = s; mutations = m })
         (tables
-        (nodeTable (now time) (now birth))
+        (nodeTable (now time) (now birth) (now population))
         (edgeTable (now left) (now right) (now parent) (now child))
         (siteTable (now position) (now ancestral))
         (mutationTable (now site) (now node) (now derived))) × (k ≤ length (now map)) × (room n e s m k ≤ length (now out)) ⌝ }
     ensures { λ r. ⌜
         Printed (listed len (front (record { nodes = n; edges = e; sites = s; mutations = m })
         (tables
-        (nodeTable (now (time .entry)) (now (birth .entry)))
+        (nodeTable (now (time .entry)) (now (birth .entry)) (now (population .entry)))
         (edgeTable (now (left .entry)) (now (right .entry)) (now (parent .entry)) (now (child .entry)))
         (siteTable (now (position .entry)) (now (ancestral .entry)))
         (mutationTable (now (site .entry)) (now (node .entry)) (now (derived .entry))))) (take k (now (map .entry)))) (now (out .entry)) (now (out .exit)) r ⌝ }
@@ -63,6 +64,7 @@ fn list_rows(
         len,
         &time[..n],
         &birth[..n],
+        &population[..n],
         &left[..e],
         &right[..e],
         &parent[..e],
@@ -82,6 +84,7 @@ fn clean_and_list(
     len: u32,
     time: &[u32],
     birth: &[u32],
+    population: &[u16],
     left: &[u32],
     right: &[u32],
     parent: &[u32],
@@ -94,17 +97,18 @@ fn clean_and_list(
     samples: &[u32],
     out: &mut [u8],
 ) -> usize
-    requires { ⌜ 307200 ≤ length (now out) ⌝ }
+    requires { ⌜ 313344 ≤ length (now out) ⌝ }
     ensures { λ r. ⌜
         Printed (cleanShown len
         (tables
-        (nodeTable (now (time .entry)) (now (birth .entry)))
+        (nodeTable (now (time .entry)) (now (birth .entry)) (now (population .entry)))
         (edgeTable (now (left .entry)) (now (right .entry)) (now (parent .entry)) (now (child .entry)))
         (siteTable (now (position .entry)) (now (ancestral .entry)))
         (mutationTable (now (site .entry)) (now (node .entry)) (now (derived .entry)))) (now (samples .entry))) (now (out .entry)) (now (out .exit)) r ⌝ }
 {
     let mut out_time = [0u32; meaning::NodeTable::STORED];
     let mut out_birth = [0u32; meaning::NodeTable::STORED];
+    let mut out_population = [0u16; meaning::NodeTable::STORED];
     let mut out_left = [0u32; meaning::EdgeTable::STORED];
     let mut out_right = [0u32; meaning::EdgeTable::STORED];
     let mut out_parent = [0u32; meaning::EdgeTable::STORED];
@@ -119,6 +123,7 @@ fn clean_and_list(
         len,
         time,
         birth,
+        population,
         left,
         right,
         parent,
@@ -131,6 +136,7 @@ fn clean_and_list(
         samples,
         &mut out_time,
         &mut out_birth,
+        &mut out_population,
         &mut out_left,
         &mut out_right,
         &mut out_parent,
@@ -152,6 +158,7 @@ fn clean_and_list(
             len,
             &out_time,
             &out_birth,
+            &out_population,
             &out_left,
             &out_right,
             &out_parent,
@@ -178,6 +185,7 @@ fn clean_rows(
     len: u32,
     time: &[u32],
     birth: &[u32],
+    population: &[u16],
     left: &[u32],
     right: &[u32],
     parent: &[u32],
@@ -194,14 +202,14 @@ fn clean_rows(
     requires { ⌜
         Long (record { nodes = rows .nodes; edges = rows .edges; sites = rows .sites; mutations = rows .mutations })
         (tables
-        (nodeTable (now time) (now birth))
+        (nodeTable (now time) (now birth) (now population))
         (edgeTable (now left) (now right) (now parent) (now child))
         (siteTable (now position) (now ancestral))
-        (mutationTable (now site) (now node) (now derived))) × (rows .samples ≤ length (now samples)) × (307200 ≤ length (now out)) ⌝ }
+        (mutationTable (now site) (now node) (now derived))) × (rows .samples ≤ length (now samples)) × (313344 ≤ length (now out)) ⌝ }
     ensures { λ r. ⌜
         Printed (cleanShown len (front (record { nodes = rows .nodes; edges = rows .edges; sites = rows .sites; mutations = rows .mutations })
         (tables
-        (nodeTable (now (time .entry)) (now (birth .entry)))
+        (nodeTable (now (time .entry)) (now (birth .entry)) (now (population .entry)))
         (edgeTable (now (left .entry)) (now (right .entry)) (now (parent .entry)) (now (child .entry)))
         (siteTable (now (position .entry)) (now (ancestral .entry)))
         (mutationTable (now (site .entry)) (now (node .entry)) (now (derived .entry))))) (take (rows .samples) (now (samples .entry)))) (now (out .entry)) (now (out .exit)) r ⌝ }
@@ -215,6 +223,7 @@ fn clean_rows(
         len,
         &time[..n],
         &birth[..n],
+        &population[..n],
         &left[..e],
         &right[..e],
         &parent[..e],
@@ -231,11 +240,12 @@ fn clean_rows(
 
 // What a stored file prints, at the front of out; the number of its bytes.
 pub fn show(bytes: &[u8], out: &mut [u8]) -> usize
-    requires { ⌜ 307200 ≤ length (now out) ⌝ }
+    requires { ⌜ 313344 ≤ length (now out) ⌝ }
     ensures { λ r. ⌜ Printed (shown (now (bytes .entry))) (now (out .entry)) (now (out .exit)) r ⌝ }
 {
     let mut time = [0u32; meaning::NodeTable::STORED];
     let mut birth = [0u32; meaning::NodeTable::STORED];
+    let mut population = [0u16; meaning::NodeTable::STORED];
     let mut left = [0u32; meaning::EdgeTable::STORED];
     let mut right = [0u32; meaning::EdgeTable::STORED];
     let mut parent = [0u32; meaning::EdgeTable::STORED];
@@ -250,6 +260,7 @@ pub fn show(bytes: &[u8], out: &mut [u8]) -> usize
         bytes,
         &mut time,
         &mut birth,
+        &mut population,
         &mut left,
         &mut right,
         &mut parent,
@@ -266,6 +277,7 @@ pub fn show(bytes: &[u8], out: &mut [u8]) -> usize
             len,
             &time,
             &birth,
+            &population,
             &left,
             &right,
             &parent,
@@ -285,7 +297,7 @@ pub fn show(bytes: &[u8], out: &mut [u8]) -> usize
 
 // What the program prints for its input: a longer one than 01 takes has a line of its own.
 pub fn answer(bytes: &[u8], out: &mut [u8]) -> usize
-    requires { ⌜ 307200 ≤ length (now out) ⌝ }
+    requires { ⌜ 313344 ≤ length (now out) ⌝ }
     ensures { λ r. ⌜ Printed (answered (now (bytes .entry))) (now (out .entry)) (now (out .exit)) r ⌝ }
 {
     if 65536 < bytes.len() {

@@ -7,7 +7,7 @@ use libc::STDOUT_FILENO;
 // Room for a file of one byte more than the longest, and for every text.
 const FILE: usize = 65537;
 
-const TEXT: usize = 307200;
+const TEXT: usize = 313344;
 
 // What stands in the text's cells before.
 const MARK: u8 = 9;

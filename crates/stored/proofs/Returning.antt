@@ -2,15 +2,15 @@
 use mathlib.Core.Path.{_≡_, refl, sym, ap, ap₂, subst, _∙_}
 use mathlib.Core.Bool.{Bool, true, false}
 use mathlib.Core.List.{List, [], _∷_}
-use Prim.Native.Nat.{ℕ, _+_, _*_, _<_, _≤_}
+use Prim.Native.Nat.{ℕ, zero, suc, _+_, _*_, _<_, _≤_}
 use native.Mathlib.Omega.{arith}
 use lib.ListN.{length}
-use Rattle.meaning.specs.Words.{at, rows}
+use Rattle.meaning.specs.Words.{at, rows, rowsFrom, zeros}
 use Rattle.meaning.specs.Rows.{Tables}
 use Rattle.meaning.specs.Answer.{Answer, answer, done, storedLimits, accepted, refusalOf, put, left-by}
 use Rattle.meaning.specs.Lent.{countsBy, cellsBy}
 use Rattle.meaning.specs.declared.Refusal.{Refusal}
-use Rattle.meaning.specs.declared.Refusal.the-variants.{Ragged, TooMany, Length, BirthRepeated, EdgeBroken, EdgeOrder, EdgeShared, SiteBroken, MutationBroken, MutationAbove, SampleUnknown, SampleRepeated, NoRoom, BatchRagged, BatchTooMany, BatchBirth, BatchEdge, BatchShared, BatchMutation, BatchAbove, MarkWrong, BytesEnd, BytesFollow, RowsOver, EdgeWide, MutationWide, NoSite, NoBirth}
+use Rattle.meaning.specs.declared.Refusal.the-variants.{Ragged, TooMany, Length, BirthRepeated, EdgeBroken, EdgeOrder, EdgeShared, SiteBroken, MutationBroken, MutationAbove, SampleUnknown, SampleRepeated, NoRoom, BatchRagged, BatchTooMany, BatchBirth, BatchEdge, BatchShared, BatchMutation, BatchAbove, MarkWrong, BytesEnd, BytesFollow, RowsOver, EdgeWide, MutationWide, Populated, NoSite, NoBirth}
 use Rattle.laws.specs.Counting.{length-rows}
 use Rattle.meaning.specs.Stored.{Kind, number, whole, form, formThen, kinds, SA, ND, ED, SI, MU, size, total, rowsAt, after, columns, tablesFrom}
 use Rattle.meaning.specs.Files.{Reading, ifDone, handed, roomAnswer, reading, tablesIn, samplesIn, found, nodesFrom, edgesFrom, sitesFrom, mutsFrom}
@@ -59,6 +59,7 @@ refusal-not-done (BytesFollow o) = refl
 refusal-not-done (RowsOver o) = refl
 refusal-not-done (EdgeWide r) = refl
 refusal-not-done (MutationWide r) = refl
+refusal-not-done (Populated r) = refl
 refusal-not-done NoSite = refl
 refusal-not-done NoBirth = refl
 
@@ -119,15 +120,27 @@ found-counted s l f = record {
 -- what the filling of each table asks
 pub record Ready (s : List ℕ) (l : Layout) (out : Tables) (listOut : List ℕ) : Type 0 where
   pub nodes : Records 10 s (l .nodes .start) (l .nodes .count) × (l .nodes .count ≤ length (out .nodes .time)) × (l .nodes .count ≤ length (out .nodes .birth))
+  pub population : l .nodes .count ≤ length (out .nodes .population)
   pub edges : Records 14 s (l .edges .start) (l .edges .count) × (l .edges .count ≤ length (out .edges .left)) × (l .edges .count ≤ length (out .edges .right)) × (l .edges .count ≤ length (out .edges .parent)) × (l .edges .count ≤ length (out .edges .child))
   pub sites : Records 7 s (l .sites .start) (l .sites .count) × (l .sites .count ≤ length (out .sites .position)) × (l .sites .count ≤ length (out .sites .ancestral))
   pub muts : Records 7 s (l .mutations .start) (l .mutations .count) × (l .mutations .count ≤ length (out .muts .site)) × (l .mutations .count ≤ length (out .muts .node)) × (l .mutations .count ≤ length (out .muts .derived))
   pub samples : Records 6 s (l .samples .start) (l .samples .count) × (l .samples .count ≤ length listOut)
 
+-- a column filled with 0
+zeros-from : (i n : ℕ) → rowsFrom (λ (k : ℕ). 0) i n ≡ zeros n
+unfolding rowsFrom zeros
+zeros-from i zero = refl
+zeros-from i (suc n) = ap (λ (l : List ℕ). 0 ∷ l) (zeros-from (suc i) n)
+
+pub rows-zeros : (n : ℕ) → rows (λ (k : ℕ). 0) n ≡ zeros n
+unfolding rows
+rows-zeros n = zeros-from 0 n
+
 -- what the filling of each table leaves
 pub record Took (s : List ℕ) (l : Layout) (out : Tables) (listOut : List ℕ) (T : Tables) (S : List ℕ) : Type 0 where
   pub time : T .nodes .time ≡ put (rows (λ i. number 4 s (l .nodes .start + 2 + i * 10)) (l .nodes .count)) (out .nodes .time)
   pub birth : T .nodes .birth ≡ put (rows (λ i. number 4 s (l .nodes .start + 2 + 4 + i * 10)) (l .nodes .count)) (out .nodes .birth)
+  pub population : T .nodes .population ≡ put (zeros (l .nodes .count)) (out .nodes .population)
   pub left : T .edges .left ≡ put (rows (λ i. number 4 s (l .edges .start + 2 + i * 14)) (l .edges .count)) (out .edges .left)
   pub right : T .edges .right ≡ put (rows (λ i. number 4 s (l .edges .start + 2 + 4 + i * 14)) (l .edges .count)) (out .edges .right)
   pub parent : T .edges .parent ≡ put (rows (λ i. number 2 s (l .edges .start + 2 + 4 + 4 + i * 14)) (l .edges .count)) (out .edges .parent)
@@ -150,6 +163,7 @@ handed-over s l out listOut T S L f t q =
     let c : Counted (rows-of l) (tablesIn (found 2 storedLimits s)) (samplesIn (found 2 storedLimits s)) = found-counted s l f in
     let time : _ = t .time ∙ moved (λ j i. number 4 s (j + 2 + i * 10)) (f .nodes) (out .nodes .time) in
     let birth : _ = t .birth ∙ moved (λ j i. number 4 s (j + 2 + 4 + i * 10)) (f .nodes) (out .nodes .birth) in
+    let population : _ = t .population ∙ ap (λ n. put (zeros n) (out .nodes .population)) (sym (c .nodes)) in
     let left : _ = t .left ∙ moved (λ j i. number 4 s (j + 2 + i * 14)) (f .edges) (out .edges .left) in
     let right : _ = t .right ∙ moved (λ j i. number 4 s (j + 2 + 4 + i * 14)) (f .edges) (out .edges .right) in
     let parent : _ = t .parent ∙ moved (λ j i. number 2 s (j + 2 + 4 + 4 + i * 14)) (f .edges) (out .edges .parent) in
@@ -166,7 +180,7 @@ handed-over s l out listOut T S L f t q =
       rows = record { nodes = sym (c .nodes) i; edges = sym (c .edges) i; sites = sym (c .sites) i; mutations = sym (c .muts) i };
       listed = sym (c .samples) i;
       cells = record {
-        nodes = record { time = time i; birth = birth i };
+        nodes = record { time = time i; birth = birth i; population = population i };
         edges = record { left = left i; right = right i; parent = parent i; child = child i };
         sites = record { position = position i; ancestral = ancestral i };
         muts = record { site = site i; node = node i; derived = derived i };
@@ -186,12 +200,13 @@ module _ (s : List ℕ) (l : Layout) (f : Whole s l) (n r : Rows) (e : n ≡ row
       let o2 : edgesFrom storedLimits s ≤ length s = after-within (ND storedLimits) s (nodesFrom storedLimits s) o1 in
       let o3 : sitesFrom 2 storedLimits s ≤ length s = after-within (ED 2 storedLimits) s (edgesFrom storedLimits s) o2 in
       let o4 : mutsFrom 2 storedLimits s ≤ length s = after-within (SI storedLimits) s (sitesFrom 2 storedLimits s) o3 in
-      let nd : _ = room-two (l .nodes .count) (out .nodes .time) (out .nodes .birth) (omega (arith, a .nodes, q .nodes)) in
+      let nd : _ = room-three (l .nodes .count) (out .nodes .time) (out .nodes .birth) (out .nodes .population) (omega (arith, a .nodes, q .nodes)) in
       let ed : _ = room-four (l .edges .count) (out .edges .left) (out .edges .right) (out .edges .parent) (out .edges .child) (omega (arith, a .edges, q .edges)) in
       let si : _ = room-two (l .sites .count) (out .sites .position) (out .sites .ancestral) (omega (arith, a .sites, q .sites)) in
       let mu : _ = room-three (l .mutations .count) (out .muts .site) (out .muts .node) (out .muts .derived) (omega (arith, a .muts, q .muts)) in
       record {
         nodes = (stretch-records 78 68 10 (storedLimits .nodes) s (nodesFrom storedLimits s) (l .nodes) (f .rows .nodes) o1, nd .0, nd .1);
+        population = nd .2;
         edges = (stretch-records 69 68 14 (storedLimits .edges) s (edgesFrom storedLimits s) (l .edges) (f .rows .edges) o2, ed .0, ed .1, ed .2, ed .3);
         sites = (stretch-records 83 73 7 (storedLimits .sites) s (sitesFrom 2 storedLimits s) (l .sites) (f .rows .sites) o3, si .0, si .1);
         muts = (stretch-records 77 85 7 (storedLimits .mutations) s (mutsFrom 2 storedLimits s) (l .mutations) (f .rows .mutations) o4, mu .0, mu .1, mu .2);

@@ -26,8 +26,8 @@ unfolding lacks
 lacks-yes most cols need h l = rw (le-ltb most need h, lt-ltb (room cols) need l)
 
 module _ (n r : Rows) (T out : Tables) (S listOut : List ℕ) (c : Counted n T S) (w : Within storedLimits T S) (q : Roomed r out listOut) where
-  nodes-no : n .nodes ≤ r .nodes → lacks (storedLimits .nodes) (out .nodes .time ∷ out .nodes .birth ∷ []) (length (T .nodes .time)) ≡ false
-  nodes-no h = lacks-no (storedLimits .nodes) (out .nodes .time ∷ out .nodes .birth ∷ []) (length (T .nodes .time)) (w .nodes) (omega (arith, c .nodes, q .nodes))
+  nodes-no : n .nodes ≤ r .nodes → lacks (storedLimits .nodes) (out .nodes .time ∷ out .nodes .birth ∷ out .nodes .population ∷ []) (length (T .nodes .time)) ≡ false
+  nodes-no h = lacks-no (storedLimits .nodes) (out .nodes .time ∷ out .nodes .birth ∷ out .nodes .population ∷ []) (length (T .nodes .time)) (w .nodes) (omega (arith, c .nodes, q .nodes))
 
   edges-no : n .edges ≤ r .edges → lacks (storedLimits .edges) (out .edges .left ∷ out .edges .right ∷ out .edges .parent ∷ out .edges .child ∷ []) (length (T .edges .left)) ≡ false
   edges-no h = lacks-no (storedLimits .edges) (out .edges .left ∷ out .edges .right ∷ out .edges .parent ∷ out .edges .child ∷ []) (length (T .edges .left)) (w .edges) (omega (arith, c .edges, q .edges))
@@ -40,7 +40,7 @@ module _ (n r : Rows) (T out : Tables) (S listOut : List ℕ) (c : Counted n T S
 
   nodes-lack : r .nodes < n .nodes → roomAnswer storedLimits T S out listOut ≡ answer 13 1
   unfolding roomAnswer fitThen
-  nodes-lack h = refuse-yes 13 1 _ (lacks-yes (storedLimits .nodes) (out .nodes .time ∷ out .nodes .birth ∷ []) (length (T .nodes .time)) (w .nodes) (omega (arith, c .nodes, q .nodes)))
+  nodes-lack h = refuse-yes 13 1 _ (lacks-yes (storedLimits .nodes) (out .nodes .time ∷ out .nodes .birth ∷ out .nodes .population ∷ []) (length (T .nodes .time)) (w .nodes) (omega (arith, c .nodes, q .nodes)))
 
   edges-lack : n .nodes ≤ r .nodes → r .edges < n .edges → roomAnswer storedLimits T S out listOut ≡ answer 13 2
   unfolding roomAnswer fitThen

@@ -12,10 +12,10 @@ use Rattle.meaning.specs.Rows.{Tables}
 use Rattle.meaning.specs.Answer.{Answer, answer, done, storedLimits, refuse, refuseRow, accepted, refusalOf, put, left-by}
 use Rattle.meaning.specs.Check.{shapes, sizes, tooMany}
 use Rattle.meaning.specs.declared.Refusal.{Refusal}
-use Rattle.meaning.specs.declared.Refusal.the-variants.{Ragged, TooMany, NoRoom, EdgeWide, MutationWide}
+use Rattle.meaning.specs.declared.Refusal.the-variants.{Ragged, TooMany, NoRoom, EdgeWide, MutationWide, Populated}
 use Rattle.laws.specs.Counting.{none-passes}
 use Rattle.meaning.specs.Stored.{SA, ND, ED, SI, MU, kinds, form, size, total, bytesOf, recordsFrom, height, kindsBytes, formBytes}
-use Rattle.meaning.specs.Files.{Writing, ifDone, filed, tooWide, written, writeAnswer, laid, writing}
+use Rattle.meaning.specs.Files.{Writing, ifDone, filed, tooWide, populated, written, writeAnswer, laid, writing}
 use Rattle.form.specs.Numbers.{length-bytes}
 use Rattle.form.specs.Refusals.{even-head, shape-even, refuse-no, refuse-yes, row-no}
 use Rattle.stored.specs.Admitted.{Shaped, Within, Narrow, shapes-pass, write-sized, write-passes}
@@ -79,6 +79,14 @@ module _ (L : ℕ) (T : Tables) (S out : List ℕ) where
     pub write-mutation : ((i : ℕ) → i < length (T .edges .left) → tooWide 2 (T .edges .parent) (T .edges .child) i ≡ false) → (e : ℕ) → e ≡ lowest (tooWide 2 (T .muts .site) (T .muts .node)) (length (T .muts .site)) → e < length (T .muts .site) → writtenOf (write.Refused (MutationWide e)) out ≡ writing 2 storedLimits L T S out
     write-mutation n e p h =
         by-answer (MutationWide e) (write-sized 2 storedLimits L T S (length out) s w ∙ row-no 35 (length (T .edges .left)) (tooWide 2 (T .edges .parent) (T .edges .child)) _ n ∙ row-yes 36 (length (T .muts .site)) (tooWide 2 (T .muts .site) (T .muts .node)) _ (omega arith) ∙ ap (answer 36) (sym p))
+
+    pub nodes-settled : (m e : ℕ) → m ≡ length (T .nodes .time) → e ≡ lowest (populated (T .nodes .population)) m → m ≤ e → (i : ℕ) → i < length (T .nodes .time) → populated (T .nodes .population) i ≡ false
+    nodes-settled m e q p h i l = none-passes (populated (T .nodes .population)) m i (omega arith) (omega arith)
+
+    pub write-populated : ((i : ℕ) → i < length (T .edges .left) → tooWide 2 (T .edges .parent) (T .edges .child) i ≡ false) → ((i : ℕ) → i < length (T .muts .site) → tooWide 2 (T .muts .site) (T .muts .node) i ≡ false) → (m e : ℕ) → m ≡ length (T .nodes .time) → e ≡ lowest (populated (T .nodes .population)) m → e < m → writtenOf (write.Refused (Populated e)) out ≡ writing 2 storedLimits L T S out
+    write-populated n k m e q p h =
+        let g : e ≡ lowest (populated (T .nodes .population)) (length (T .nodes .time)) = p ∙ ap (lowest (populated (T .nodes .population))) q in
+        by-answer (Populated e) (write-sized 2 storedLimits L T S (length out) s w ∙ row-no 35 (length (T .edges .left)) (tooWide 2 (T .edges .parent) (T .edges .child)) _ n ∙ row-no 36 (length (T .muts .site)) (tooWide 2 (T .muts .site) (T .muts .node)) _ k ∙ row-yes 38 (length (T .nodes .time)) (populated (T .nodes .population)) _ (omega arith) ∙ ap (answer 38) (sym g))
 
 -- ---- the whole file
 
@@ -184,8 +192,10 @@ module _ (L : ℕ) (T : Tables) (S : List ℕ) where
 -- ---- columns of one length, one by one
 
 module _ (T : Tables) (s : Shaped T) where
-  pub nodes-same : length (T .nodes .birth) ≡ length (T .nodes .time)
-  nodes-same = even-head (shape-even (T .nodes .time) (T .nodes .birth ∷ []) (s .nodes)) .0
+  pub nodes-same : (length (T .nodes .birth) ≡ length (T .nodes .time)) × (length (T .nodes .population) ≡ length (T .nodes .time))
+  nodes-same =
+      let a : _ = even-head (shape-even (T .nodes .time) (T .nodes .birth ∷ T .nodes .population ∷ []) (s .nodes)) in
+      (a .0, even-head (a .1) .0)
 
   pub edges-same : (length (T .edges .right) ≡ length (T .edges .left)) × (length (T .edges .parent) ≡ length (T .edges .left)) × (length (T .edges .child) ≡ length (T .edges .left))
   edges-same =

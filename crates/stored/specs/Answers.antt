@@ -53,7 +53,7 @@ pub record Counted (n : Rows) (T : Tables) (S : List ℕ) : Type 0 where
 
 -- r is how many rows there is room for: the shortest column of each table
 pub record Roomed (r : Rows) (out : Tables) (listOut : List ℕ) : Type 0 where
-  pub nodes : room (out .nodes .time ∷ out .nodes .birth ∷ []) ≡ r .nodes
+  pub nodes : room (out .nodes .time ∷ out .nodes .birth ∷ out .nodes .population ∷ []) ≡ r .nodes
   pub edges : room (out .edges .left ∷ out .edges .right ∷ out .edges .parent ∷ out .edges .child ∷ []) ≡ r .edges
   pub sites : room (out .sites .position ∷ out .sites .ancestral ∷ []) ≡ r .sites
   pub muts : room (out .muts .site ∷ out .muts .node ∷ out .muts .derived ∷ []) ≡ r .mutations
@@ -89,6 +89,7 @@ mostRows = record { nodes = storedLimits .nodes; edges = storedLimits .edges; si
 pub record Long (n : Lengths) (T : Tables) : Type 0 where
   pub time : length (T .nodes .time) ≡ n .time
   pub birth : length (T .nodes .birth) ≡ n .birth
+  pub population : length (T .nodes .population) ≡ n .population
   pub left : length (T .edges .left) ≡ n .left
   pub right : length (T .edges .right) ≡ n .right
   pub parent : length (T .edges .parent) ≡ n .parent

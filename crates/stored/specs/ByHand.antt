@@ -1,11 +1,11 @@
--- Small files by hand, computed from the definitions: each refusal with its offset, and a file that is read and written back.
+-- Small files by hand, computed from the definitions: each refusal with its offset, a file that is read and written back, and a population that is refused.
 use mathlib.Core.Path.{_≡_, refl}
 use mathlib.Core.List.{List, [], _∷_, _++_}
 use Prim.Native.Nat.{ℕ}
 use Rattle.meaning.specs.Rows.{Tables}
 use Rattle.meaning.specs.Answer.{Answer, Limits, answer, done, storedLimits}
 use Rattle.meaning.specs.Stored.{form, formThen}
-use Rattle.meaning.specs.Files.{found, samplesIn, tablesIn, written}
+use Rattle.meaning.specs.Files.{found, samplesIn, tablesIn, written, writeAnswer}
 
 -- SQ with L 10, a sample 501, a node (258, 501), and the end
 abbrev sq : List ℕ
@@ -26,10 +26,19 @@ none = record { nodes = 0; edges = 0; sites = 0; mutations = 0; samples = 0 }
 
 abbrev tables : Tables
 tables = record {
-  nodes = record { time = 258 ∷ []; birth = 501 ∷ [] };
+  nodes = record { time = 258 ∷ []; birth = 501 ∷ []; population = 0 ∷ [] };
   edges = record { left = []; right = []; parent = []; child = [] };
   sites = record { position = []; ancestral = [] };
   muts = record { site = []; node = []; derived = [] };
+}
+
+-- the same with the population 7
+abbrev stocked : Tables
+stocked = record {
+  nodes = record { time = 258 ∷ []; birth = 501 ∷ []; population = 7 ∷ [] };
+  edges = tables .edges;
+  sites = tables .sites;
+  muts = tables .muts;
 }
 
 pub record ByHand : Type 0 where
@@ -48,9 +57,13 @@ pub record ByHand : Type 0 where
   pub samples : samplesIn (found 2 storedLimits (sq ++ (sa ++ (nd ++ en)))) ≡ 501 ∷ []
   pub rows : tablesIn (found 2 storedLimits (sq ++ (sa ++ (nd ++ en)))) ≡ tables
   pub back : written 2 storedLimits 10 tables (501 ∷ []) ≡ sq ++ (sa ++ (nd ++ en))
+  -- a population is refused, also where there is no room
+  pub populated : writeAnswer 2 storedLimits 10 stocked (501 ∷ []) 24 ≡ answer 38 0
+  pub roomless : writeAnswer 2 storedLimits 10 stocked (501 ∷ []) 0 ≡ answer 38 0
+  pub unpopulated : writeAnswer 2 storedLimits 10 tables (501 ∷ []) 24 ≡ done
 
 pub by-hand : ByHand
-unfolding formThen form found samplesIn tablesIn written
+unfolding formThen form found samplesIn tablesIn written writeAnswer
 by-hand = record {
   empty = refl;
   lone-byte = refl;
@@ -66,4 +79,7 @@ by-hand = record {
   samples = refl;
   rows = refl;
   back = refl;
+  populated = refl;
+  roomless = refl;
+  unpopulated = refl;
 }

@@ -7,7 +7,7 @@ use native.Mathlib.Omega.{arith}
 use borrow.Author.Tests.{leb-false, lt-leb}
 use lib.Dec.{leb, ltb}
 use lib.ListN.{length}
-use Rattle.meaning.specs.Words.{or, at, rows}
+use Rattle.meaning.specs.Words.{or, at, rows, zeros}
 use Rattle.meaning.specs.Rows.{Tables}
 use Rattle.meaning.specs.Answer.{Answer, Limits, done, refuse, accepted, ragged}
 use Rattle.laws.specs.Bools.{or-no}
@@ -18,6 +18,7 @@ use Rattle.form.specs.Refusals.{Even, even-head, even-shape, shape-even}
 use Rattle.form.specs.Numbers.{Bytes, number-below}
 use Rattle.form.specs.Marks.{whole-le}
 use Rattle.form.specs.Records.{Fit}
+use Rattle.stored.specs.Settled.{zeros-long, zeros-settled, settled-zeros}
 use Rattle.stored.specs.Kinds.{proper, Fitting, form-accepted, form-len, form-tables, form-read}
 use Rattle.stored.specs.Admitted.{Shaped, Within, Narrow, write-passes, write-accepted}
 
@@ -53,7 +54,7 @@ narrow-both w a b i h =
 filed-fits : (w : ℕ) (m : Limits) (T : Tables) (S : List ℕ) → Shaped T → Within m T S → Narrow w T → Cells T S → Fitting (kinds w m) (filed S T)
 unfolding kinds filed height
 filed-fits w m T S s l n c =
-    let nd : _ = even-head (shape-even (T .nodes .time) (T .nodes .birth ∷ []) (s .nodes)) in
+    let nd : _ = even-head (shape-even (T .nodes .time) (T .nodes .birth ∷ T .nodes .population ∷ []) (s .nodes)) in
     let ed : _ = even-head (shape-even (T .edges .left) (T .edges .right ∷ T .edges .parent ∷ T .edges .child ∷ []) (s .edges)) in
     let ed2 : _ = even-head (ed .1) in
     let ed3 : _ = even-head (ed2 .1) in
@@ -67,7 +68,17 @@ filed-fits w m T S s l n c =
     (Fitting.cons (Fit.cons refl (λ i h. narrow-both w (T .muts .site) (T .muts .node) i (n .muts i h) .0) (Fit.cons (mu .0) (λ i h. narrow-both w (T .muts .site) (T .muts .node) i (n .muts i h) .1) (Fit.cons (mu2 .0) (λ i h. c .derived i) Fit.nil))) (l .muts)
     Fitting.nil))))
 
--- what was written is read as the same L, tables and samples, and refused for want of room only
+-- the populations that writing accepts are those that are read back
+settled : (w : ℕ) (T : Tables) → Shaped T → Narrow w T → zeros (length (T .nodes .time)) ≡ T .nodes .population
+settled w T s n =
+    let e : length (T .nodes .population) ≡ length (T .nodes .time) = even-head (even-head (shape-even (T .nodes .time) (T .nodes .birth ∷ T .nodes .population ∷ []) (s .nodes)) .1) .0 in
+    ap zeros (sym e) ∙ settled-zeros (T .nodes .population) (λ i h. n .nodes i (omega arith))
+
+-- tables with such a column for their populations
+abbrev stocked : Tables → List ℕ → Tables
+stocked T p = record { nodes = record { time = T .nodes .time; birth = T .nodes .birth; population = p }; edges = T .edges; sites = T .sites; muts = T .muts }
+
+-- what was written is read as the same L, tables and samples, the populations with them, and refused for want of room only
 pub read-written : (w : ℕ) (m : Limits) (L : ℕ) (T : Tables) (S : List ℕ) (room : ℕ) → L < 256 ^ 4 → Cells T S → accepted (writeAnswer w m L T S room) ≡ true → (out : Tables) (listOut : List ℕ) → reading w m (written w m L T S) out listOut ≡ handed (roomAnswer m T S out listOut) L T S out listOut
 unfolding reading written found tablesIn samplesIn filed form
 read-written w m L T S room l c h out listOut =
@@ -76,6 +87,7 @@ read-written w m L T S room l c h out listOut =
     let e : tablesFrom (form w m .kinds) (formBytes (form w m) L (filed S T)) 6 ≡ filed S T = form-tables (form w m) L (filed S T) (kinds-proper w m) l g in
     let q : number 4 (formBytes (form w m) L (filed S T)) 2 ≡ L = form-len (form w m) L (filed S T) (kinds-proper w m) l g in
     ap (λ X. handed (formThen (form w m) (formBytes (form w m) L (filed S T)) (roomAnswer m (tablesIn X) (samplesIn X) out listOut)) (number 4 (formBytes (form w m) L (filed S T)) 2) (tablesIn X) (samplesIn X) out listOut) e
+    ∙ ap (λ r. handed (formThen (form w m) (formBytes (form w m) L (filed S T)) (roomAnswer m (stocked T r) S out listOut)) (number 4 (formBytes (form w m) L (filed S T)) 2) (stocked T r) S out listOut) (settled w T (p .0) (p .2))
     ∙ ap₂ (λ (a : Answer) (b : ℕ). handed a b T S out listOut) (form-accepted (form w m) L (filed S T) (kinds-proper w m) l g (roomAnswer m T S out listOut)) q
 
 -- ---- what was read is written back
@@ -94,6 +106,14 @@ columns-shape w ws s o z n =
 kind-shape : (k : Kind) (w : ℕ) (ws s : List ℕ) (o : ℕ) → ragged (columns (w ∷ ws) s (o + 2) (size k) (rowsAt k s o)) ≡ false
 kind-shape k w ws s o = columns-shape w ws s (o + 2) (size k) (rowsAt k s o)
 
+-- nodes that are read have as many populations
+nodes-shape : (k : Kind) (s : List ℕ) (o : ℕ) → ragged (rows (λ i. number 4 s (o + 2 + i * size k)) (rowsAt k s o) ∷ rows (λ i. number 4 s (o + 2 + 4 + i * size k)) (rowsAt k s o) ∷ zeros (length (rows (λ i. number 4 s (o + 2 + i * size k)) (rowsAt k s o))) ∷ []) ≡ false
+nodes-shape k s o =
+    let a : List ℕ = rows (λ i. number 4 s (o + 2 + i * size k)) (rowsAt k s o) in
+    let b : List ℕ = rows (λ i. number 4 s (o + 2 + 4 + i * size k)) (rowsAt k s o) in
+    let e : length b ≡ length a = length-rows (λ i. number 4 s (o + 2 + 4 + i * size k)) (rowsAt k s o) ∙ sym (length-rows (λ i. number 4 s (o + 2 + i * size k)) (rowsAt k s o)) in
+    even-shape a (b ∷ zeros (length a) ∷ []) (Even.cons e (Even.cons (zeros-long (length a)) Even.nil))
+
 -- the rows of a kind are within its limit
 rows-within : (k : Kind) (f : ℕ → ℕ) (s : List ℕ) (o : ℕ) → length (rows f (rowsAt k s o)) ≤ k .most
 unfolding rowsAt
@@ -108,7 +128,7 @@ module _ (w : ℕ) (m : Limits) (s : List ℕ) where
   found-shaped : Shaped (tablesIn (found w m s))
   unfolding tablesIn found form kinds tablesFrom columns
   found-shaped = record {
-    nodes = kind-shape (ND m) 4 (4 ∷ []) s (nodesFrom m s);
+    nodes = nodes-shape (ND m) s (nodesFrom m s);
     edges = kind-shape (ED w m) 4 (4 ∷ w ∷ w ∷ []) s (edgesFrom m s);
     sites = kind-shape (SI m) 4 (1 ∷ []) s (sitesFrom w m s);
     muts = kind-shape (MU w m) w (w ∷ 1 ∷ []) s (mutsFrom w m s);
@@ -129,6 +149,7 @@ module _ (w : ℕ) (m : Limits) (s : List ℕ) where
   found-narrow b = record {
     edges = λ i h. read-narrow w s _ _ _ i b (rw length-rows at h);
     muts = λ i h. read-narrow w s _ _ _ i b (rw length-rows at h);
+    nodes = λ i h. zeros-settled _ i h;
   }
 
   found-back : (rest : Answer) → Bytes s → accepted (formThen (form w m) s rest) ≡ true → written w m (number 4 s 2) (tablesIn (found w m s)) (samplesIn (found w m s)) ≡ s

@@ -34,6 +34,7 @@ pub enum ReadAnswer {
 pub struct Lengths {
     pub time: usize,
     pub birth: usize,
+    pub population: usize,
     pub left: usize,
     pub right: usize,
     pub parent: usize,
@@ -56,6 +57,7 @@ pub fn read(
     bytes: &[u8],
     time: &mut [u32],
     birth: &mut [u32],
+    population: &mut [u16],
     left: &mut [u32],
     right: &mut [u32],
     parent: &mut [u32],
@@ -70,13 +72,13 @@ pub fn read(
     ensures { λ r. ⌜
         readOf r
         (tables
-        (nodeTable (now (time .exit)) (now (birth .exit)))
+        (nodeTable (now (time .exit)) (now (birth .exit)) (now (population .exit)))
         (edgeTable (now (left .exit)) (now (right .exit)) (now (parent .exit)) (now (child .exit)))
         (siteTable (now (position .exit)) (now (ancestral .exit)))
         (mutationTable (now (site .exit)) (now (node .exit)) (now (derived .exit)))) (now (samples .exit))
         ≡ reading 2 storedLimits (now (bytes .entry))
         (tables
-        (nodeTable (now (time .entry)) (now (birth .entry)))
+        (nodeTable (now (time .entry)) (now (birth .entry)) (now (population .entry)))
         (edgeTable (now (left .entry)) (now (right .entry)) (now (parent .entry)) (now (child .entry)))
         (siteTable (now (position .entry)) (now (ancestral .entry)))
         (mutationTable (now (site .entry)) (now (node .entry)) (now (derived .entry)))) (now (samples .entry)) ⌝ }
@@ -86,7 +88,7 @@ pub fn read(
         Scan::Refused(x) => return ReadAnswer::Refused(x),
     };
     let lent = Rows {
-        nodes: measure::least(time.len(), birth.len()),
+        nodes: measure::least3(time.len(), birth.len(), population.len()),
         edges: measure::least4(left.len(), right.len(), parent.len(), child.len()),
         sites: measure::least(position.len(), ancestral.len()),
         mutations: measure::least3(site.len(), node.len(), derived.len()),
@@ -103,6 +105,7 @@ pub fn read(
             let mutations_at = found.mutations;
             let samples_at = found.samples;
             form::fill::nodes(bytes, nodes_at.start, nodes_at.count, time, birth);
+            measure::settle(population, nodes_at.count);
             form::fill::edges(
                 bytes,
                 edges_at.start,
@@ -133,6 +136,7 @@ pub fn write(
     samples: &[u32],
     time: &[u32],
     birth: &[u32],
+    population: &[u16],
     left: &[u32],
     right: &[u32],
     parent: &[u32],
@@ -148,7 +152,7 @@ pub fn write(
         writtenOf r (now (bytes .exit))
         ≡ writing 2 storedLimits len
         (tables
-        (nodeTable (now (time .entry)) (now (birth .entry)))
+        (nodeTable (now (time .entry)) (now (birth .entry)) (now (population .entry)))
         (edgeTable (now (left .entry)) (now (right .entry)) (now (parent .entry)) (now (child .entry)))
         (siteTable (now (position .entry)) (now (ancestral .entry)))
         (mutationTable (now (site .entry)) (now (node .entry)) (now (derived .entry)))) (now (samples .entry)) (now (bytes .entry)) ⌝ }
@@ -156,6 +160,7 @@ pub fn write(
     let lengths = Lengths {
         time: time.len(),
         birth: birth.len(),
+        population: population.len(),
         left: left.len(),
         right: right.len(),
         parent: parent.len(),
@@ -186,6 +191,10 @@ pub fn write(
     let mutation = measure::first_wide(site, node);
     if mutation < site.len() {
         return WriteAnswer::Refused(meaning::Refusal::MutationWide(mutation));
+    }
+    let stock = measure::first_populated(population);
+    if stock < population.len() {
+        return WriteAnswer::Refused(meaning::Refusal::Populated(stock));
     }
     let count = measure::file_bytes(rows);
     if bytes.len() < count {

@@ -2,8 +2,9 @@
 ghost use mathlib.Core.Path.{_≡_};
 ghost use Prim.Native.Nat.{min, _+_, _*_, _≤_};
 ghost use lib.ListN.{length};
-ghost use Rattle.meaning.specs.Words.{lowest};
-ghost use Rattle.meaning.specs.Files.{tooWide};
+ghost use Rattle.meaning.specs.Words.{lowest, zeros};
+ghost use Rattle.meaning.specs.Answer.{put};
+ghost use Rattle.meaning.specs.Files.{tooWide, populated};
 ghost use Rattle.stored.specs.Answers.{Ample, Lacking, Uneven, mostRows};
 use crate::Fault;
 use crate::Lengths;
@@ -93,6 +94,9 @@ pub fn uneven(n: Lengths) -> Fault
     if n.birth != n.time {
         return Fault::Table(NodeTable::NUMBER);
     }
+    if n.population != n.time {
+        return Fault::Table(NodeTable::NUMBER);
+    }
     if n.right != n.left {
         return Fault::Table(EdgeTable::NUMBER);
     }
@@ -130,6 +134,32 @@ pub fn first_wide(a: &[u32], b: &[u32]) -> usize
         i += 1;
     }
     i
+}
+
+// The lowest row whose population is not 0, for which a file has no field.
+pub fn first_populated(population: &[u16]) -> usize
+    ensures { λ r. ⌜ r ≡ lowest (populated (now (population .entry))) (length (now (population .entry))) ⌝ }
+{
+    let mut i = 0;
+    while i < population.len() {
+        if population[i] != 0 {
+            return i;
+        }
+        i += 1;
+    }
+    i
+}
+
+// The population 0 for each of n rows read, since a file has no other.
+pub fn settle(population: &mut [u16], n: usize)
+    requires { ⌜ n ≤ length (now population) ⌝ }
+    ensures { λ _. ⌜ now (population .exit) ≡ put (zeros n) (now (population .entry)) ⌝ }
+{
+    let mut i = 0;
+    while i < n {
+        population[i] = 0;
+        i += 1;
+    }
 }
 
 // How many bytes so many rows take, the first record and the end with them.

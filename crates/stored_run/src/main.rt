@@ -2,6 +2,9 @@
 // and says for each group how many cases there were and how many differ.
 ghost use mathlib.Core.Path.{_≡_};
 ghost use Prim.Native.Nat.{_<_};
+
+mod writes;
+
 use libc::STDIN_FILENO;
 use libc::STDOUT_FILENO;
 use meaning::Refusal;
@@ -41,6 +44,12 @@ fn wide32(v: u32) -> u64
     v as u64
 }
 
+fn wide16(v: u16) -> u64
+    ensures { λ r. ⌜ r < 65536 ⌝ }
+{
+    v as u64
+}
+
 // The number in four bytes of a case's head.
 fn word(s: &[u8; 68], at: usize) -> u64 {
     if 64 < at {
@@ -65,6 +74,16 @@ fn fold8(a: &[u8], before: u64) -> u64 {
     let mut i = 0;
     while i < a.len() {
         h = h % 4294967291 * 31 + wide(a[i]);
+        i += 1;
+    }
+    h
+}
+
+fn fold16(a: &[u16], before: u64) -> u64 {
+    let mut h = before;
+    let mut i = 0;
+    while i < a.len() {
+        h = h % 4294967291 * 31 + wide16(a[i]);
         i += 1;
     }
     h
@@ -142,6 +161,10 @@ fn front8(a: &[u8], n: usize) -> &[u8] {
     if n <= a.len() { &a[..n] } else { a }
 }
 
+fn front16(a: &[u16], n: usize) -> &[u16] {
+    if n <= a.len() { &a[..n] } else { a }
+}
+
 // Whether the rows that were read are written back byte for byte, and no byte after them changes.
 fn back(
     bytes: &[u8],
@@ -149,6 +172,7 @@ fn back(
     n: Rows,
     time: &[u32],
     birth: &[u32],
+    population: &[u16],
     left: &[u32],
     right: &[u32],
     parent: &[u32],
@@ -171,6 +195,7 @@ fn back(
         front32(samples, listed),
         front32(time, nodes),
         front32(birth, nodes),
+        front16(population, nodes),
         front32(left, edges),
         front32(right, edges),
         front32(parent, edges),
@@ -197,6 +222,7 @@ fn back(
 fn large(bytes: &[u8], head: &[u8; 68]) -> bool {
     let mut time = [7u32; 1024];
     let mut birth = [7u32; 1024];
+    let mut population = [7u16; 1024];
     let mut left = [7u32; 4096];
     let mut right = [7u32; 4096];
     let mut parent = [7u32; 4096];
@@ -211,6 +237,7 @@ fn large(bytes: &[u8], head: &[u8; 68]) -> bool {
         bytes,
         &mut time,
         &mut birth,
+        &mut population,
         &mut left,
         &mut right,
         &mut parent,
@@ -222,7 +249,7 @@ fn large(bytes: &[u8], head: &[u8; 68]) -> bool {
         &mut derived,
         &mut samples,
     );
-    let a = fold32(&birth, fold32(&time, 0));
+    let a = fold16(&population, fold32(&birth, fold32(&time, 0)));
     let b = fold32(&child, fold32(&parent, fold32(&right, fold32(&left, a))));
     let c = fold8(&ancestral, fold32(&position, b));
     let d = fold8(&derived, fold32(&node, fold32(&site, c)));
@@ -237,6 +264,7 @@ fn large(bytes: &[u8], head: &[u8; 68]) -> bool {
             rows,
             &time,
             &birth,
+            &population,
             &left,
             &right,
             &parent,
@@ -251,10 +279,9 @@ fn large(bytes: &[u8], head: &[u8; 68]) -> bool {
     }
 }
 
-// Reads a case into a few rows of room; the shortest column is another one in each table.
-fn small(bytes: &[u8], head: &[u8; 68]) -> bool {
+// Reads a case into a few rows of room; the shortest column is another one in each table. Births and populations are lent.
+fn small(bytes: &[u8], head: &[u8; 68], birth: &mut [u32], population: &mut [u16]) -> bool {
     let mut time = [7u32; 4];
-    let mut birth = [7u32; 3];
     let mut left = [7u32; 5];
     let mut right = [7u32; 5];
     let mut parent = [7u32; 4];
@@ -268,7 +295,8 @@ fn small(bytes: &[u8], head: &[u8; 68]) -> bool {
     let r = stored::read(
         bytes,
         &mut time,
-        &mut birth,
+        birth,
+        population,
         &mut left,
         &mut right,
         &mut parent,
@@ -280,11 +308,25 @@ fn small(bytes: &[u8], head: &[u8; 68]) -> bool {
         &mut derived,
         &mut samples,
     );
-    let a = fold32(&birth, fold32(&time, 0));
+    let a = fold16(population, fold32(birth, fold32(&time, 0)));
     let b = fold32(&child, fold32(&parent, fold32(&right, fold32(&left, a))));
     let c = fold8(&ancestral, fold32(&position, b));
     let d = fold8(&derived, fold32(&node, fold32(&site, c)));
     agrees(head, answered(r), fold32(&samples, d))
+}
+
+// The births' column is the shortest of the nodes.
+fn few_births(bytes: &[u8], head: &[u8; 68]) -> bool {
+    let mut birth = [7u32; 3];
+    let mut population = [7u16; 4];
+    small(bytes, head, &mut birth, &mut population)
+}
+
+// That of the populations is.
+fn few_stocks(bytes: &[u8], head: &[u8; 68]) -> bool {
+    let mut birth = [7u32; 4];
+    let mut population = [7u16; 3];
+    small(bytes, head, &mut birth, &mut population)
 }
 
 // Fills the front of a buffer with the next bytes of the input; whether there were so many.
@@ -295,6 +337,17 @@ fn fetch(buffer: &mut [u8], n: usize) -> bool {
     } else {
         false
     }
+}
+
+// Whether reading the bytes of a case of this kind goes as its head says.
+fn goes(kind: u64, bytes: &[u8], head: &[u8; 68]) -> bool {
+    if kind == 1 {
+        return large(bytes, head);
+    }
+    if kind == 2 {
+        return few_births(bytes, head);
+    }
+    few_stocks(bytes, head)
 }
 
 // One case: its head, its bytes, and whether reading them goes as the head says.
@@ -318,11 +371,7 @@ fn take_case() -> Turn {
         io::write_all(STDOUT_FILENO, front8(&bytes, m));
         return Turn::Group;
     }
-    let good = if kind == 1 {
-        large(front8(&bytes, m), &head)
-    } else {
-        small(front8(&bytes, m), &head)
-    };
+    let good = goes(kind, front8(&bytes, m), &head);
     if good { Turn::Same } else { Turn::Differs }
 }
 
@@ -358,73 +407,7 @@ fn groups() {
     }
 }
 
-// Writes one edge and one mutation, some times and samples, and says what is answered.
-fn wrote(what: &[u8], parent: u32, node: u32, times: usize, samples: &[u32], out: &mut [u8]) {
-    let t = [0u32; 2];
-    let one = [1u32; 1];
-    let p = [parent];
-    let u = [node];
-    let state = [65u8; 1];
-    let answer = stored::write(
-        10,
-        samples,
-        front32(&t, times),
-        &one,
-        &one,
-        &one,
-        &p,
-        &one,
-        &one,
-        &state,
-        &one,
-        &u,
-        &state,
-        out,
-    );
-    let s = match answer {
-        WriteAnswer::Done(_) => refusal(0, 0),
-        WriteAnswer::Refused(x) => refused(x),
-    };
-    io::write_all(STDOUT_FILENO, what);
-    io::print_decimal(STDOUT_FILENO, s.number);
-    io::write_all(STDOUT_FILENO, b" ");
-    io::print_decimal(STDOUT_FILENO, s.row as u64);
-    io::write_all(STDOUT_FILENO, b"\n");
-}
-
 fn main() {
     groups();
-    let few = [5u32; 1];
-    let over = [5u32; 257];
-    let mut large = [0u8; 64];
-    let mut just = [0u8; 52];
-    let mut short = [0u8; 51];
-    wrote(b"write, all well: ", 65535, 65535, 1, &few, &mut large);
-    wrote(
-        b"write, columns differ: ",
-        65536,
-        65536,
-        2,
-        &over,
-        &mut large,
-    );
-    wrote(
-        b"write, a sample too many: ",
-        65536,
-        65536,
-        1,
-        &over,
-        &mut large,
-    );
-    wrote(b"write, a wide edge: ", 65536, 65536, 1, &few, &mut large);
-    wrote(
-        b"write, a wide mutation: ",
-        65535,
-        65536,
-        1,
-        &few,
-        &mut large,
-    );
-    wrote(b"write, just room: ", 0, 0, 1, &few, &mut just);
-    wrote(b"write, a byte short: ", 0, 0, 1, &few, &mut short);
+    writes::by_hand();
 }

@@ -22,7 +22,7 @@ orBlock (suc t) cells = suc t
 unfoldable pub roomWithin : Needs → Lent → ℕ → Answer
 unfolding refuse blockThen
 roomWithin n l cells =
-    refuse (or (ltb (limits .nodes) (n .nodes)) (ltb (min (l .time) (l .birth)) (n .nodes))) 13 1
+    refuse (or (ltb (limits .nodes) (n .nodes)) (ltb (min (l .time) (min (l .birth) (l .population))) (n .nodes))) 13 1
     (refuse (or (ltb (limits .edges) (n .edges)) (ltb (min (l .left) (min (l .right) (min (l .parent) (l .child)))) (n .edges))) 13 2
     (refuse (or (ltb (limits .sites) (n .sites)) (ltb (min (l .position) (l .ancestral)) (n .sites))) 13 3
     (refuse (or (ltb (limits .mutations) (n .mutations)) (ltb (min (l .site) (min (l .node) (l .derived))) (n .mutations))) 13 4
@@ -62,7 +62,7 @@ after-all cells t false false false false false e = decides cells t e
 pub block-after : (n : Needs) (l : Lent) (cells t : ℕ) → roomOf t ≡ roomAnswer n l → roomOf (orBlock t cells) ≡ roomWithin n l cells
 unfolding roomAnswer roomWithin
 block-after n l cells t e = after-all cells t
-    (or (ltb (limits .nodes) (n .nodes)) (ltb (min (l .time) (l .birth)) (n .nodes)))
+    (or (ltb (limits .nodes) (n .nodes)) (ltb (min (l .time) (min (l .birth) (l .population))) (n .nodes)))
     (or (ltb (limits .edges) (n .edges)) (ltb (min (l .left) (min (l .right) (min (l .parent) (l .child)))) (n .edges)))
     (or (ltb (limits .sites) (n .sites)) (ltb (min (l .position) (l .ancestral)) (n .sites)))
     (or (ltb (limits .mutations) (n .mutations)) (ltb (min (l .site) (min (l .node) (l .derived))) (n .mutations)))

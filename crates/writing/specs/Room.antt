@@ -21,6 +21,7 @@ pub record Needs : Type 0 where
 pub record Lent : Type 0 where
   pub time : ℕ
   pub birth : ℕ
+  pub population : ℕ
   pub left : ℕ
   pub right : ℕ
   pub parent : ℕ
@@ -41,7 +42,7 @@ roomOf (suc t) = answer 13 (suc t)
 unfoldable pub roomAnswer : Needs → Lent → Answer
 unfolding refuse
 roomAnswer n l =
-    refuse (or (ltb (limits .nodes) (n .nodes)) (ltb (min (l .time) (l .birth)) (n .nodes))) 13 1
+    refuse (or (ltb (limits .nodes) (n .nodes)) (ltb (min (l .time) (min (l .birth) (l .population))) (n .nodes))) 13 1
     (refuse (or (ltb (limits .edges) (n .edges)) (ltb (min (l .left) (min (l .right) (min (l .parent) (l .child)))) (n .edges))) 13 2
     (refuse (or (ltb (limits .sites) (n .sites)) (ltb (min (l .position) (l .ancestral)) (n .sites))) 13 3
     (refuse (or (ltb (limits .mutations) (n .mutations)) (ltb (min (l .site) (min (l .node) (l .derived))) (n .mutations))) 13 4
@@ -55,6 +56,7 @@ abbrev pub lentBy : Tables → List ℕ → Lent
 lentBy out outMap = record {
   time = length (out .nodes .time);
   birth = length (out .nodes .birth);
+  population = length (out .nodes .population);
   left = length (out .edges .left);
   right = length (out .edges .right);
   parent = length (out .edges .parent);

@@ -48,6 +48,19 @@ pub fn gather_states(src: &[u8], rows: &[u32], k: usize, out: &mut [u8])
     }
 }
 
+// As gather, for populations.
+pub fn gather_populations(src: &[u16], rows: &[u32], k: usize, out: &mut [u16])
+    requires { ⌜ (k ≤ length (now rows)) × (k ≤ length (now out)) × Inside (length (now src)) (take k (now rows)) ⌝ }
+    ensures { λ _. ⌜ now (out .exit) ≡ put (map (at (now (src .entry))) (take k (now (rows .entry)))) (now (out .entry)) ⌝ }
+{
+    let mut i = 0;
+    while i < k {
+        let row = wide(rows[i]);
+        out[i] = src[row];
+        i += 1;
+    }
+}
+
 // The first k cells of a column, to the front of out.
 pub fn copy(src: &[u32], k: usize, out: &mut [u32])
     requires { ⌜ (k ≤ length (now src)) × (k ≤ length (now out)) ⌝ }
@@ -137,6 +150,7 @@ pub fn no_room(
     rows: usize,
     time: usize,
     birth: usize,
+    population: usize,
     left: usize,
     right: usize,
     parent: usize,
@@ -148,9 +162,9 @@ pub fn no_room(
     derived: usize,
     nodemap: usize,
 ) -> usize
-    ensures { λ r. ⌜ roomOf r ≡ roomAnswer (record { nodes = nodes; edges = edges; sites = sites; mutations = mutations; rows = rows }) (record { time = time; birth = birth; left = left; right = right; parent = parent; child = child; position = position; ancestral = ancestral; site = site; node = node; derived = derived; nodemap = nodemap }) ⌝ }
+    ensures { λ r. ⌜ roomOf r ≡ roomAnswer (record { nodes = nodes; edges = edges; sites = sites; mutations = mutations; rows = rows }) (record { time = time; birth = birth; population = population; left = left; right = right; parent = parent; child = child; position = position; ancestral = ancestral; site = site; node = node; derived = derived; nodemap = nodemap }) ⌝ }
 {
-    if lacks_two(NodeTable::MOST, nodes, time, birth) {
+    if lacks_three(NodeTable::MOST, nodes, time, birth, population) {
         return NodeTable::NUMBER;
     }
     if lacks_four(EdgeTable::MOST, edges, left, right, parent, child) {

@@ -29,6 +29,7 @@ pub fn no_room_within(
     rows: usize,
     time: usize,
     birth: usize,
+    population: usize,
     left: usize,
     right: usize,
     parent: usize,
@@ -41,7 +42,7 @@ pub fn no_room_within(
     nodemap: usize,
     cells: usize,
 ) -> usize
-    ensures { λ r. ⌜ roomOf r ≡ roomWithin (record { nodes = nodes; edges = edges; sites = sites; mutations = mutations; rows = rows }) (record { time = time; birth = birth; left = left; right = right; parent = parent; child = child; position = position; ancestral = ancestral; site = site; node = node; derived = derived; nodemap = nodemap }) cells ⌝ }
+    ensures { λ r. ⌜ roomOf r ≡ roomWithin (record { nodes = nodes; edges = edges; sites = sites; mutations = mutations; rows = rows }) (record { time = time; birth = birth; population = population; left = left; right = right; parent = parent; child = child; position = position; ancestral = ancestral; site = site; node = node; derived = derived; nodemap = nodemap }) cells ⌝ }
 {
     let t = crate::no_room(
         nodes,
@@ -51,6 +52,7 @@ pub fn no_room_within(
         rows,
         time,
         birth,
+        population,
         left,
         right,
         parent,

@@ -16,13 +16,13 @@ enum-told : tie.Need-enum-told
 enum-told c = search needs
 
 slice-reshare-prefix-read-allele : tie.Need-slice-reshare-prefix-read-allele
-slice-reshare-prefix-read-allele c = edges-room _ _ (c .before .before .before .before .before .before .check-lent .result) (c .before .before .before .before .before .before .check-lent .ensures .0) _ _ (c .before .before .before .before .before .before .check-lent .ensures .1) (c .enum-told .given .1) _ (c .before .before .before .before .before .before .before .before .before .before .before .before .before .before .before .before .before .before .before .before .before .before .pre .0) (c .before .before .before .before .before .before .check-lent .kept .1 .1 .1 .1 .1 .1 .1 .1 .1 .1 .1 .1 .0)
+slice-reshare-prefix-read-allele c = edges-room _ _ (c .before .before .before .before .before .before .check-lent .result) (c .before .before .before .before .before .before .check-lent .ensures .0) _ _ (c .before .before .before .before .before .before .check-lent .ensures .1) (c .enum-told .given .1) _ (c .before .before .before .before .before .before .before .before .before .before .before .before .before .before .before .before .before .before .before .before .before .before .before .pre .0) (c .before .before .before .before .before .before .check-lent .kept .1 .1 .1 .1 .1 .1 .1 .1 .1 .1 .1 .1 .1 .0)
 
 slice-aggregate-read-allele : tie.Need-slice-aggregate-read-allele
-slice-aggregate-read-allele c = sym (length-take-le _ _ (edges-room _ _ (c .before .before .before .before .before .before .before .check-lent .result) (c .before .before .before .before .before .before .before .check-lent .ensures .0) _ _ (c .before .before .before .before .before .before .before .check-lent .ensures .1) (c .before .enum-told .given .1) _ (c .before .before .before .before .before .before .before .before .before .before .before .before .before .before .before .before .before .before .before .before .before .before .before .pre .0) (c .before .before .before .before .before .before .before .check-lent .kept .1 .1 .1 .1 .1 .1 .1 .1 .1 .1 .1 .1 .0)))
+slice-aggregate-read-allele c = sym (length-take-le _ _ (edges-room _ _ (c .before .before .before .before .before .before .before .check-lent .result) (c .before .before .before .before .before .before .before .check-lent .ensures .0) _ _ (c .before .before .before .before .before .before .before .check-lent .ensures .1) (c .before .enum-told .given .1) _ (c .before .before .before .before .before .before .before .before .before .before .before .before .before .before .before .before .before .before .before .before .before .before .before .before .pre .0) (c .before .before .before .before .before .before .before .check-lent .kept .1 .1 .1 .1 .1 .1 .1 .1 .1 .1 .1 .1 .1 .0)))
 
 slice-reshare-prefix-read-allele-2 : tie.Need-slice-reshare-prefix-read-allele-2
-slice-reshare-prefix-read-allele-2 c = births-room _ _ (c .before .before .before .before .before .before .before .check-lent .result) (c .before .before .before .before .before .before .before .check-lent .ensures .0) _ _ (c .before .before .before .before .before .before .before .check-lent .ensures .1) (c .before .enum-told .given .1) _ (c .before .before .before .before .before .before .before .before .before .before .before .before .before .before .before .before .before .before .before .before .before .before .before .pre .1) (c .before .before .before .before .before .before .before .check-lent .kept .1 .1 .1 .1 .1 .1 .1 .1 .1 .1 .1 .1 .1 .0)
+slice-reshare-prefix-read-allele-2 c = births-room _ _ (c .before .before .before .before .before .before .before .check-lent .result) (c .before .before .before .before .before .before .before .check-lent .ensures .0) _ _ (c .before .before .before .before .before .before .before .check-lent .ensures .1) (c .before .enum-told .given .1) _ (c .before .before .before .before .before .before .before .before .before .before .before .before .before .before .before .before .before .before .before .before .before .before .before .before .pre .1) (c .before .before .before .before .before .before .before .check-lent .kept .1 .1 .1 .1 .1 .1 .1 .1 .1 .1 .1 .1 .1 .1 .0)
 
 slice-aggregate-read-allele-2 : tie.Need-slice-aggregate-read-allele-2
 slice-aggregate-read-allele-2 c = sym (c .before .before .before .before .before .before .before .before .check-lent .ensures .1 .births (c .before .before .enum-told .given .1) .long)

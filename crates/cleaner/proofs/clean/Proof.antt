@@ -42,8 +42,11 @@ same-length-11 c = search needs
 same-length-12 : tie.Need-same-length-12
 same-length-12 c = search needs
 
+same-length-13 : tie.Need-same-length-13
+same-length-13 c = search needs
+
 returns : tie.Need-returns
-returns c = c .before .before .before .before .before .before .before .before .before .before .before .before .before .before .before .before .before .before .before .before .before .before .before .before .clean-within .ensures
+returns c = c .before .before .before .before .before .before .before .before .before .before .before .before .before .before .before .before .before .before .before .before .before .before .before .before .before .before .clean-within .ensures
 
 pub clean-spec : {M : Type 1} → statement M
 clean-spec =
@@ -62,4 +65,5 @@ clean-spec =
     same-length-10
     same-length-11
     same-length-12
+    same-length-13
     returns)

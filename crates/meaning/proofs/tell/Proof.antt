@@ -83,6 +83,9 @@ enum-known-x-24 c = search needs
 enum-known-x-25 : tie.Need-enum-known-x-25
 enum-known-x-25 c = search needs
 
+enum-known-x-26 : tie.Need-enum-known-x-26
+enum-known-x-26 c = search needs
+
 enum-told-2 : tie.Need-enum-told-2
 enum-told-2 c = search needs
 
@@ -168,10 +171,13 @@ returns-26 : tie.Need-returns-26
 returns-26 c = sym (ap refusalOf (c .before .x25 .given .1))
 
 returns-27 : tie.Need-returns-27
-returns-27 c = sym (ap refusalOf (c .enum-told2 .given .1))
+returns-27 c = sym (ap refusalOf (c .before .x26 .given .1))
 
 returns-28 : tie.Need-returns-28
-returns-28 c = sym (ap refusalOf (c .enum-told3 .given .1))
+returns-28 c = sym (ap refusalOf (c .enum-told2 .given .1))
+
+returns-29 : tie.Need-returns-29
+returns-29 c = sym (ap refusalOf (c .enum-told3 .given .1))
 
 pub tell-spec : {M : Type 1} → statement M
 tell-spec =
@@ -203,6 +209,7 @@ tell-spec =
     enum-known-x-23
     enum-known-x-24
     enum-known-x-25
+    enum-known-x-26
     enum-told-2
     enum-told-3
     returns
@@ -232,4 +239,5 @@ tell-spec =
     returns-25
     returns-26
     returns-27
-    returns-28)
+    returns-28
+    returns-29)

@@ -17,13 +17,13 @@ enum-told : tie.Need-enum-told
 enum-told c = search needs
 
 slice-reshare-prefix-panel-sound : tie.Need-slice-reshare-prefix-panel-sound
-slice-reshare-prefix-panel-sound c = edges-room _ _ (c .before .before .before .before .before .before .check-lent .result) (c .before .before .before .before .before .before .check-lent .ensures .0) _ _ (c .before .before .before .before .before .before .check-lent .ensures .1) (c .enum-told .given .1) _ refl (c .before .before .before .before .before .before .check-lent .kept .1 .1 .1 .1 .1 .1 .1 .1 .1 .1 .1 .1 .0 ∙ c .before .before .before .before .before .before .before .before .before .before .before .before .before .before .before .before .before .before .before .before .before .before .before .before .before .before .pre .0)
+slice-reshare-prefix-panel-sound c = edges-room _ _ (c .before .before .before .before .before .before .check-lent .result) (c .before .before .before .before .before .before .check-lent .ensures .0) _ _ (c .before .before .before .before .before .before .check-lent .ensures .1) (c .enum-told .given .1) _ refl (c .before .before .before .before .before .before .check-lent .kept .1 .1 .1 .1 .1 .1 .1 .1 .1 .1 .1 .1 .1 .0 ∙ c .before .before .before .before .before .before .before .before .before .before .before .before .before .before .before .before .before .before .before .before .before .before .before .before .before .before .before .pre .0)
 
 slice-aggregate-panel-sound : tie.Need-slice-aggregate-panel-sound
-slice-aggregate-panel-sound c = sym (length-take-le _ _ (edges-room _ _ (c .before .before .before .before .before .before .before .check-lent .result) (c .before .before .before .before .before .before .before .check-lent .ensures .0) _ _ (c .before .before .before .before .before .before .before .check-lent .ensures .1) (c .before .enum-told .given .1) _ refl (c .before .before .before .before .before .before .before .check-lent .kept .1 .1 .1 .1 .1 .1 .1 .1 .1 .1 .1 .1 .0 ∙ c .before .before .before .before .before .before .before .before .before .before .before .before .before .before .before .before .before .before .before .before .before .before .before .before .before .before .before .pre .0)))
+slice-aggregate-panel-sound c = sym (length-take-le _ _ (edges-room _ _ (c .before .before .before .before .before .before .before .check-lent .result) (c .before .before .before .before .before .before .before .check-lent .ensures .0) _ _ (c .before .before .before .before .before .before .before .check-lent .ensures .1) (c .before .enum-told .given .1) _ refl (c .before .before .before .before .before .before .before .check-lent .kept .1 .1 .1 .1 .1 .1 .1 .1 .1 .1 .1 .1 .1 .0 ∙ c .before .before .before .before .before .before .before .before .before .before .before .before .before .before .before .before .before .before .before .before .before .before .before .before .before .before .before .before .pre .0)))
 
 slice-reshare-prefix-panel-sound-2 : tie.Need-slice-reshare-prefix-panel-sound-2
-slice-reshare-prefix-panel-sound-2 c = births-room _ _ (c .before .before .before .before .before .before .before .check-lent .result) (c .before .before .before .before .before .before .before .check-lent .ensures .0) _ _ (c .before .before .before .before .before .before .before .check-lent .ensures .1) (c .before .enum-told .given .1) _ refl (c .before .before .before .before .before .before .before .check-lent .kept .1 .1 .1 .1 .1 .1 .1 .1 .1 .1 .1 .1 .1 .0 ∙ c .before .before .before .before .before .before .before .before .before .before .before .before .before .before .before .before .before .before .before .before .before .before .before .before .before .before .before .pre .1)
+slice-reshare-prefix-panel-sound-2 c = births-room _ _ (c .before .before .before .before .before .before .before .check-lent .result) (c .before .before .before .before .before .before .before .check-lent .ensures .0) _ _ (c .before .before .before .before .before .before .before .check-lent .ensures .1) (c .before .enum-told .given .1) _ refl (c .before .before .before .before .before .before .before .check-lent .kept .1 .1 .1 .1 .1 .1 .1 .1 .1 .1 .1 .1 .1 .1 .0 ∙ c .before .before .before .before .before .before .before .before .before .before .before .before .before .before .before .before .before .before .before .before .before .before .before .before .before .before .before .before .pre .1)
 
 slice-aggregate-panel-sound-2 : tie.Need-slice-aggregate-panel-sound-2
 slice-aggregate-panel-sound-2 c = sym (c .before .before .before .before .before .before .before .before .check-lent .ensures .1 .births (c .before .before .enum-told .given .1) .long)

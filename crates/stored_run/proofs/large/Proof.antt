@@ -48,14 +48,20 @@ slice-aggregate-read-11 c = search needs
 slice-aggregate-read-12 : tie.Need-slice-aggregate-read-12
 slice-aggregate-read-12 c = search needs
 
+slice-aggregate-read-13 : tie.Need-slice-aggregate-read-13
+slice-aggregate-read-13 c = search needs
+
 read-requires : tie.Need-read-requires
 read-requires c κs = search needs
 
+slice-aggregate-fold16 : tie.Need-slice-aggregate-fold16
+slice-aggregate-fold16 c = omega (arith, c .before .before .before .before .before .before .before .before .before .before .before .before .before .before .read .kept .1 .1 .1 .0)
+
 slice-aggregate-fold32 : tie.Need-slice-aggregate-fold32
-slice-aggregate-fold32 c = search needs
+slice-aggregate-fold32 c = omega (arith, c .before .before .before .before .before .before .before .before .before .before .before .before .before .before .before .read .kept .1 .1 .0)
 
 slice-aggregate-fold32-2 : tie.Need-slice-aggregate-fold32-2
-slice-aggregate-fold32-2 c = search needs
+slice-aggregate-fold32-2 c = omega (arith, c .before .before .before .before .before .before .before .before .before .before .before .before .before .before .before .before .read .kept .1 .0)
 
 fold32-requires : tie.Need-fold32-requires
 fold32-requires c κs = search needs
@@ -63,17 +69,20 @@ fold32-requires c κs = search needs
 fold32-requires-2 : tie.Need-fold32-requires-2
 fold32-requires-2 c κs = search needs
 
+fold16-requires : tie.Need-fold16-requires
+fold16-requires c κs = search needs
+
 slice-aggregate-fold32-3 : tie.Need-slice-aggregate-fold32-3
-slice-aggregate-fold32-3 c = search needs
+slice-aggregate-fold32-3 c = omega (arith, c .before .before .before .before .before .before .before .before .before .before .before .before .before .before .before .before .before .before .before .before .read .kept .1 .1 .1 .1 .1 .1 .1 .0)
 
 slice-aggregate-fold32-4 : tie.Need-slice-aggregate-fold32-4
-slice-aggregate-fold32-4 c = search needs
+slice-aggregate-fold32-4 c = omega (arith, c .before .before .before .before .before .before .before .before .before .before .before .before .before .before .before .before .before .before .before .before .before .read .kept .1 .1 .1 .1 .1 .1 .0)
 
 slice-aggregate-fold32-5 : tie.Need-slice-aggregate-fold32-5
-slice-aggregate-fold32-5 c = search needs
+slice-aggregate-fold32-5 c = omega (arith, c .before .before .before .before .before .before .before .before .before .before .before .before .before .before .before .before .before .before .before .before .before .before .read .kept .1 .1 .1 .1 .1 .0)
 
 slice-aggregate-fold32-6 : tie.Need-slice-aggregate-fold32-6
-slice-aggregate-fold32-6 c = search needs
+slice-aggregate-fold32-6 c = omega (arith, c .before .before .before .before .before .before .before .before .before .before .before .before .before .before .before .before .before .before .before .before .before .before .before .read .kept .1 .1 .1 .1 .0)
 
 fold32-requires-3 : tie.Need-fold32-requires-3
 fold32-requires-3 c κs = search needs
@@ -88,10 +97,10 @@ fold32-requires-6 : tie.Need-fold32-requires-6
 fold32-requires-6 c κs = search needs
 
 slice-aggregate-fold8 : tie.Need-slice-aggregate-fold8
-slice-aggregate-fold8 c = search needs
+slice-aggregate-fold8 c = omega (arith, c .before .before .before .before .before .before .before .before .before .before .before .before .before .before .before .before .before .before .before .before .before .before .before .before .before .before .before .before .read .kept .1 .1 .1 .1 .1 .1 .1 .1 .1 .0)
 
 slice-aggregate-fold32-7 : tie.Need-slice-aggregate-fold32-7
-slice-aggregate-fold32-7 c = search needs
+slice-aggregate-fold32-7 c = omega (arith, c .before .before .before .before .before .before .before .before .before .before .before .before .before .before .before .before .before .before .before .before .before .before .before .before .before .before .before .before .before .read .kept .1 .1 .1 .1 .1 .1 .1 .1 .0)
 
 fold32-requires-7 : tie.Need-fold32-requires-7
 fold32-requires-7 c κs = search needs
@@ -100,13 +109,13 @@ fold8-requires : tie.Need-fold8-requires
 fold8-requires c κs = search needs
 
 slice-aggregate-fold8-2 : tie.Need-slice-aggregate-fold8-2
-slice-aggregate-fold8-2 c = search needs
+slice-aggregate-fold8-2 c = omega (arith, c .before .before .before .before .before .before .before .before .before .before .before .before .before .before .before .before .before .before .before .before .before .before .before .before .before .before .before .before .before .before .before .before .read .kept .1 .1 .1 .1 .1 .1 .1 .1 .1 .1 .1 .1 .0)
 
 slice-aggregate-fold32-8 : tie.Need-slice-aggregate-fold32-8
-slice-aggregate-fold32-8 c = search needs
+slice-aggregate-fold32-8 c = omega (arith, c .before .before .before .before .before .before .before .before .before .before .before .before .before .before .before .before .before .before .before .before .before .before .before .before .before .before .before .before .before .before .before .before .before .read .kept .1 .1 .1 .1 .1 .1 .1 .1 .1 .1 .1 .0)
 
 slice-aggregate-fold32-9 : tie.Need-slice-aggregate-fold32-9
-slice-aggregate-fold32-9 c = search needs
+slice-aggregate-fold32-9 c = omega (arith, c .before .before .before .before .before .before .before .before .before .before .before .before .before .before .before .before .before .before .before .before .before .before .before .before .before .before .before .before .before .before .before .before .before .before .read .kept .1 .1 .1 .1 .1 .1 .1 .1 .1 .1 .0)
 
 fold32-requires-8 : tie.Need-fold32-requires-8
 fold32-requires-8 c κs = search needs
@@ -121,7 +130,7 @@ answered-requires : tie.Need-answered-requires
 answered-requires c κs = search needs
 
 slice-aggregate-fold32-10 : tie.Need-slice-aggregate-fold32-10
-slice-aggregate-fold32-10 c = omega (arith, c .before .before .before .before .before .before .before .before .before .before .before .before .before .before .before .before .before .before .before .before .before .before .before .before .before .before .before .before .before .before .before .before .before .before .before .before .read .kept .1 .1 .1 .1 .1 .1 .1 .1 .1 .1 .1 .1 .0)
+slice-aggregate-fold32-10 c = omega (arith, c .before .before .before .before .before .before .before .before .before .before .before .before .before .before .before .before .before .before .before .before .before .before .before .before .before .before .before .before .before .before .before .before .before .before .before .before .before .before .before .read .kept .1 .1 .1 .1 .1 .1 .1 .1 .1 .1 .1 .1 .1 .0)
 
 fold32-requires-10 : tie.Need-fold32-requires-10
 fold32-requires-10 c κs = search needs
@@ -139,40 +148,43 @@ enum-known-r : tie.Need-enum-known-r
 enum-known-r c = search needs
 
 slice-aggregate-back : tie.Need-slice-aggregate-back
-slice-aggregate-back c = omega (arith, c .before .before .before .before .before .before .before .before .before .before .before .before .before .before .before .before .before .before .before .before .before .before .before .before .before .before .before .before .before .before .before .before .before .before .before .before .before .before .before .before .before .before .before .read .kept .1 .0)
+slice-aggregate-back c = omega (arith, c .before .before .before .before .before .before .before .before .before .before .before .before .before .before .before .before .before .before .before .before .before .before .before .before .before .before .before .before .before .before .before .before .before .before .before .before .before .before .before .before .before .before .before .before .before .before .read .kept .1 .0)
 
 slice-aggregate-back-2 : tie.Need-slice-aggregate-back-2
-slice-aggregate-back-2 c = omega (arith, c .before .before .before .before .before .before .before .before .before .before .before .before .before .before .before .before .before .before .before .before .before .before .before .before .before .before .before .before .before .before .before .before .before .before .before .before .before .before .before .before .before .before .before .before .read .kept .1 .1 .0)
+slice-aggregate-back-2 c = omega (arith, c .before .before .before .before .before .before .before .before .before .before .before .before .before .before .before .before .before .before .before .before .before .before .before .before .before .before .before .before .before .before .before .before .before .before .before .before .before .before .before .before .before .before .before .before .before .before .before .read .kept .1 .1 .0)
 
 slice-aggregate-back-3 : tie.Need-slice-aggregate-back-3
-slice-aggregate-back-3 c = omega (arith, c .before .before .before .before .before .before .before .before .before .before .before .before .before .before .before .before .before .before .before .before .before .before .before .before .before .before .before .before .before .before .before .before .before .before .before .before .before .before .before .before .before .before .before .before .before .read .kept .1 .1 .1 .0)
+slice-aggregate-back-3 c = omega (arith, c .before .before .before .before .before .before .before .before .before .before .before .before .before .before .before .before .before .before .before .before .before .before .before .before .before .before .before .before .before .before .before .before .before .before .before .before .before .before .before .before .before .before .before .before .before .before .before .before .read .kept .1 .1 .1 .0)
 
 slice-aggregate-back-4 : tie.Need-slice-aggregate-back-4
-slice-aggregate-back-4 c = omega (arith, c .before .before .before .before .before .before .before .before .before .before .before .before .before .before .before .before .before .before .before .before .before .before .before .before .before .before .before .before .before .before .before .before .before .before .before .before .before .before .before .before .before .before .before .before .before .before .read .kept .1 .1 .1 .1 .0)
+slice-aggregate-back-4 c = omega (arith, c .before .before .before .before .before .before .before .before .before .before .before .before .before .before .before .before .before .before .before .before .before .before .before .before .before .before .before .before .before .before .before .before .before .before .before .before .before .before .before .before .before .before .before .before .before .before .before .before .before .read .kept .1 .1 .1 .1 .0)
 
 slice-aggregate-back-5 : tie.Need-slice-aggregate-back-5
-slice-aggregate-back-5 c = omega (arith, c .before .before .before .before .before .before .before .before .before .before .before .before .before .before .before .before .before .before .before .before .before .before .before .before .before .before .before .before .before .before .before .before .before .before .before .before .before .before .before .before .before .before .before .before .before .before .before .read .kept .1 .1 .1 .1 .1 .0)
+slice-aggregate-back-5 c = omega (arith, c .before .before .before .before .before .before .before .before .before .before .before .before .before .before .before .before .before .before .before .before .before .before .before .before .before .before .before .before .before .before .before .before .before .before .before .before .before .before .before .before .before .before .before .before .before .before .before .before .before .before .read .kept .1 .1 .1 .1 .1 .0)
 
 slice-aggregate-back-6 : tie.Need-slice-aggregate-back-6
-slice-aggregate-back-6 c = omega (arith, c .before .before .before .before .before .before .before .before .before .before .before .before .before .before .before .before .before .before .before .before .before .before .before .before .before .before .before .before .before .before .before .before .before .before .before .before .before .before .before .before .before .before .before .before .before .before .before .before .read .kept .1 .1 .1 .1 .1 .1 .0)
+slice-aggregate-back-6 c = omega (arith, c .before .before .before .before .before .before .before .before .before .before .before .before .before .before .before .before .before .before .before .before .before .before .before .before .before .before .before .before .before .before .before .before .before .before .before .before .before .before .before .before .before .before .before .before .before .before .before .before .before .before .before .read .kept .1 .1 .1 .1 .1 .1 .0)
 
 slice-aggregate-back-7 : tie.Need-slice-aggregate-back-7
-slice-aggregate-back-7 c = omega (arith, c .before .before .before .before .before .before .before .before .before .before .before .before .before .before .before .before .before .before .before .before .before .before .before .before .before .before .before .before .before .before .before .before .before .before .before .before .before .before .before .before .before .before .before .before .before .before .before .before .before .read .kept .1 .1 .1 .1 .1 .1 .1 .0)
+slice-aggregate-back-7 c = omega (arith, c .before .before .before .before .before .before .before .before .before .before .before .before .before .before .before .before .before .before .before .before .before .before .before .before .before .before .before .before .before .before .before .before .before .before .before .before .before .before .before .before .before .before .before .before .before .before .before .before .before .before .before .before .read .kept .1 .1 .1 .1 .1 .1 .1 .0)
 
 slice-aggregate-back-8 : tie.Need-slice-aggregate-back-8
-slice-aggregate-back-8 c = omega (arith, c .before .before .before .before .before .before .before .before .before .before .before .before .before .before .before .before .before .before .before .before .before .before .before .before .before .before .before .before .before .before .before .before .before .before .before .before .before .before .before .before .before .before .before .before .before .before .before .before .before .before .read .kept .1 .1 .1 .1 .1 .1 .1 .1 .0)
+slice-aggregate-back-8 c = omega (arith, c .before .before .before .before .before .before .before .before .before .before .before .before .before .before .before .before .before .before .before .before .before .before .before .before .before .before .before .before .before .before .before .before .before .before .before .before .before .before .before .before .before .before .before .before .before .before .before .before .before .before .before .before .before .read .kept .1 .1 .1 .1 .1 .1 .1 .1 .0)
 
 slice-aggregate-back-9 : tie.Need-slice-aggregate-back-9
-slice-aggregate-back-9 c = omega (arith, c .before .before .before .before .before .before .before .before .before .before .before .before .before .before .before .before .before .before .before .before .before .before .before .before .before .before .before .before .before .before .before .before .before .before .before .before .before .before .before .before .before .before .before .before .before .before .before .before .before .before .before .read .kept .1 .1 .1 .1 .1 .1 .1 .1 .1 .0)
+slice-aggregate-back-9 c = omega (arith, c .before .before .before .before .before .before .before .before .before .before .before .before .before .before .before .before .before .before .before .before .before .before .before .before .before .before .before .before .before .before .before .before .before .before .before .before .before .before .before .before .before .before .before .before .before .before .before .before .before .before .before .before .before .before .read .kept .1 .1 .1 .1 .1 .1 .1 .1 .1 .0)
 
 slice-aggregate-back-10 : tie.Need-slice-aggregate-back-10
-slice-aggregate-back-10 c = omega (arith, c .before .before .before .before .before .before .before .before .before .before .before .before .before .before .before .before .before .before .before .before .before .before .before .before .before .before .before .before .before .before .before .before .before .before .before .before .before .before .before .before .before .before .before .before .before .before .before .before .before .before .before .before .read .kept .1 .1 .1 .1 .1 .1 .1 .1 .1 .1 .0)
+slice-aggregate-back-10 c = omega (arith, c .before .before .before .before .before .before .before .before .before .before .before .before .before .before .before .before .before .before .before .before .before .before .before .before .before .before .before .before .before .before .before .before .before .before .before .before .before .before .before .before .before .before .before .before .before .before .before .before .before .before .before .before .before .before .before .read .kept .1 .1 .1 .1 .1 .1 .1 .1 .1 .1 .0)
 
 slice-aggregate-back-11 : tie.Need-slice-aggregate-back-11
-slice-aggregate-back-11 c = omega (arith, c .before .before .before .before .before .before .before .before .before .before .before .before .before .before .before .before .before .before .before .before .before .before .before .before .before .before .before .before .before .before .before .before .before .before .before .before .before .before .before .before .before .before .before .before .before .before .before .before .before .before .before .before .before .read .kept .1 .1 .1 .1 .1 .1 .1 .1 .1 .1 .1 .0)
+slice-aggregate-back-11 c = omega (arith, c .before .before .before .before .before .before .before .before .before .before .before .before .before .before .before .before .before .before .before .before .before .before .before .before .before .before .before .before .before .before .before .before .before .before .before .before .before .before .before .before .before .before .before .before .before .before .before .before .before .before .before .before .before .before .before .before .read .kept .1 .1 .1 .1 .1 .1 .1 .1 .1 .1 .1 .0)
 
 slice-aggregate-back-12 : tie.Need-slice-aggregate-back-12
-slice-aggregate-back-12 c = omega (arith, c .before .before .before .before .before .before .before .before .before .before .before .before .before .before .before .before .before .before .before .before .before .before .before .before .before .before .before .before .before .before .before .before .before .before .before .before .before .before .before .before .before .before .before .before .before .before .before .before .before .before .before .before .before .before .read .kept .1 .1 .1 .1 .1 .1 .1 .1 .1 .1 .1 .1 .0)
+slice-aggregate-back-12 c = omega (arith, c .before .before .before .before .before .before .before .before .before .before .before .before .before .before .before .before .before .before .before .before .before .before .before .before .before .before .before .before .before .before .before .before .before .before .before .before .before .before .before .before .before .before .before .before .before .before .before .before .before .before .before .before .before .before .before .before .before .read .kept .1 .1 .1 .1 .1 .1 .1 .1 .1 .1 .1 .1 .0)
+
+slice-aggregate-back-13 : tie.Need-slice-aggregate-back-13
+slice-aggregate-back-13 c = omega (arith, c .before .before .before .before .before .before .before .before .before .before .before .before .before .before .before .before .before .before .before .before .before .before .before .before .before .before .before .before .before .before .before .before .before .before .before .before .before .before .before .before .before .before .before .before .before .before .before .before .before .before .before .before .before .before .before .before .before .before .read .kept .1 .1 .1 .1 .1 .1 .1 .1 .1 .1 .1 .1 .1 .0)
 
 back-requires : tie.Need-back-requires
 back-requires c κs = search needs
@@ -199,11 +211,14 @@ large-spec =
     slice-aggregate-read-10
     slice-aggregate-read-11
     slice-aggregate-read-12
+    slice-aggregate-read-13
     read-requires
+    slice-aggregate-fold16
     slice-aggregate-fold32
     slice-aggregate-fold32-2
     fold32-requires
     fold32-requires-2
+    fold16-requires
     slice-aggregate-fold32-3
     slice-aggregate-fold32-4
     slice-aggregate-fold32-5
@@ -241,6 +256,7 @@ large-spec =
     slice-aggregate-back-10
     slice-aggregate-back-11
     slice-aggregate-back-12
+    slice-aggregate-back-13
     back-requires
     returns-2
     returns-3)

@@ -44,17 +44,11 @@ slice-aggregate-read-10 c = search needs
 slice-aggregate-read-11 : tie.Need-slice-aggregate-read-11
 slice-aggregate-read-11 c = search needs
 
-slice-aggregate-read-12 : tie.Need-slice-aggregate-read-12
-slice-aggregate-read-12 c = search needs
-
 read-requires : tie.Need-read-requires
 read-requires c κs = search needs
 
 slice-aggregate-fold32 : tie.Need-slice-aggregate-fold32
-slice-aggregate-fold32 c = search needs
-
-slice-aggregate-fold32-2 : tie.Need-slice-aggregate-fold32-2
-slice-aggregate-fold32-2 c = search needs
+slice-aggregate-fold32 c = omega (arith, c .before .before .before .before .before .before .before .before .before .before .before .before .before .before .before .before .before .before .read .kept .1 .0)
 
 fold32-requires : tie.Need-fold32-requires
 fold32-requires c κs = search needs
@@ -62,17 +56,20 @@ fold32-requires c κs = search needs
 fold32-requires-2 : tie.Need-fold32-requires-2
 fold32-requires-2 c κs = search needs
 
+fold16-requires : tie.Need-fold16-requires
+fold16-requires c κs = search needs
+
+slice-aggregate-fold32-2 : tie.Need-slice-aggregate-fold32-2
+slice-aggregate-fold32-2 c = omega (arith, c .before .before .before .before .before .before .before .before .before .before .before .before .before .before .before .before .before .before .before .before .before .before .read .kept .1 .1 .1 .1 .1 .1 .1 .0)
+
 slice-aggregate-fold32-3 : tie.Need-slice-aggregate-fold32-3
-slice-aggregate-fold32-3 c = search needs
+slice-aggregate-fold32-3 c = omega (arith, c .before .before .before .before .before .before .before .before .before .before .before .before .before .before .before .before .before .before .before .before .before .before .before .read .kept .1 .1 .1 .1 .1 .1 .0)
 
 slice-aggregate-fold32-4 : tie.Need-slice-aggregate-fold32-4
-slice-aggregate-fold32-4 c = search needs
+slice-aggregate-fold32-4 c = omega (arith, c .before .before .before .before .before .before .before .before .before .before .before .before .before .before .before .before .before .before .before .before .before .before .before .before .read .kept .1 .1 .1 .1 .1 .0)
 
 slice-aggregate-fold32-5 : tie.Need-slice-aggregate-fold32-5
-slice-aggregate-fold32-5 c = search needs
-
-slice-aggregate-fold32-6 : tie.Need-slice-aggregate-fold32-6
-slice-aggregate-fold32-6 c = search needs
+slice-aggregate-fold32-5 c = omega (arith, c .before .before .before .before .before .before .before .before .before .before .before .before .before .before .before .before .before .before .before .before .before .before .before .before .before .read .kept .1 .1 .1 .1 .0)
 
 fold32-requires-3 : tie.Need-fold32-requires-3
 fold32-requires-3 c κs = search needs
@@ -87,10 +84,10 @@ fold32-requires-6 : tie.Need-fold32-requires-6
 fold32-requires-6 c κs = search needs
 
 slice-aggregate-fold8 : tie.Need-slice-aggregate-fold8
-slice-aggregate-fold8 c = search needs
+slice-aggregate-fold8 c = omega (arith, c .before .before .before .before .before .before .before .before .before .before .before .before .before .before .before .before .before .before .before .before .before .before .before .before .before .before .before .before .before .before .read .kept .1 .1 .1 .1 .1 .1 .1 .1 .1 .0)
 
-slice-aggregate-fold32-7 : tie.Need-slice-aggregate-fold32-7
-slice-aggregate-fold32-7 c = search needs
+slice-aggregate-fold32-6 : tie.Need-slice-aggregate-fold32-6
+slice-aggregate-fold32-6 c = omega (arith, c .before .before .before .before .before .before .before .before .before .before .before .before .before .before .before .before .before .before .before .before .before .before .before .before .before .before .before .before .before .before .before .read .kept .1 .1 .1 .1 .1 .1 .1 .1 .0)
 
 fold32-requires-7 : tie.Need-fold32-requires-7
 fold32-requires-7 c κs = search needs
@@ -99,13 +96,13 @@ fold8-requires : tie.Need-fold8-requires
 fold8-requires c κs = search needs
 
 slice-aggregate-fold8-2 : tie.Need-slice-aggregate-fold8-2
-slice-aggregate-fold8-2 c = search needs
+slice-aggregate-fold8-2 c = omega (arith, c .before .before .before .before .before .before .before .before .before .before .before .before .before .before .before .before .before .before .before .before .before .before .before .before .before .before .before .before .before .before .before .before .before .before .read .kept .1 .1 .1 .1 .1 .1 .1 .1 .1 .1 .1 .1 .0)
+
+slice-aggregate-fold32-7 : tie.Need-slice-aggregate-fold32-7
+slice-aggregate-fold32-7 c = omega (arith, c .before .before .before .before .before .before .before .before .before .before .before .before .before .before .before .before .before .before .before .before .before .before .before .before .before .before .before .before .before .before .before .before .before .before .before .read .kept .1 .1 .1 .1 .1 .1 .1 .1 .1 .1 .1 .0)
 
 slice-aggregate-fold32-8 : tie.Need-slice-aggregate-fold32-8
-slice-aggregate-fold32-8 c = search needs
-
-slice-aggregate-fold32-9 : tie.Need-slice-aggregate-fold32-9
-slice-aggregate-fold32-9 c = search needs
+slice-aggregate-fold32-8 c = omega (arith, c .before .before .before .before .before .before .before .before .before .before .before .before .before .before .before .before .before .before .before .before .before .before .before .before .before .before .before .before .before .before .before .before .before .before .before .before .read .kept .1 .1 .1 .1 .1 .1 .1 .1 .1 .1 .0)
 
 fold32-requires-8 : tie.Need-fold32-requires-8
 fold32-requires-8 c κs = search needs
@@ -119,14 +116,20 @@ fold8-requires-2 c κs = search needs
 answered-requires : tie.Need-answered-requires
 answered-requires c κs = search needs
 
-slice-aggregate-fold32-10 : tie.Need-slice-aggregate-fold32-10
-slice-aggregate-fold32-10 c = omega (arith, c .before .before .before .before .before .before .before .before .before .before .before .before .before .before .before .before .before .before .before .before .before .before .before .before .before .before .before .before .before .before .before .before .before .before .before .before .read .kept .1 .1 .1 .1 .1 .1 .1 .1 .1 .1 .1 .1 .0)
+slice-aggregate-fold32-9 : tie.Need-slice-aggregate-fold32-9
+slice-aggregate-fold32-9 c = omega (arith, c .before .before .before .before .before .before .before .before .before .before .before .before .before .before .before .before .before .before .before .before .before .before .before .before .before .before .before .before .before .before .before .before .before .before .before .before .before .before .before .before .before .read .kept .1 .1 .1 .1 .1 .1 .1 .1 .1 .1 .1 .1 .1 .0)
 
 fold32-requires-10 : tie.Need-fold32-requires-10
 fold32-requires-10 c κs = search needs
 
 agrees-requires : tie.Need-agrees-requires
 agrees-requires c κs = search needs
+
+same-length : tie.Need-same-length
+same-length c = c .before .before .before .before .before .before .before .before .before .before .before .before .before .before .before .before .before .before .before .before .before .before .before .before .before .before .before .before .before .before .before .before .before .before .before .before .before .before .before .before .before .before .before .read .kept .1 .1 .0
+
+same-length-2 : tie.Need-same-length-2
+same-length-2 c = c .before .before .before .before .before .before .before .before .before .before .before .before .before .before .before .before .before .before .before .before .before .before .before .before .before .before .before .before .before .before .before .before .before .before .before .before .before .before .before .before .before .before .before .read .kept .1 .1 .1 .0
 
 returns : tie.Need-returns
 returns c = search needs
@@ -146,32 +149,33 @@ small-spec =
     slice-aggregate-read-9
     slice-aggregate-read-10
     slice-aggregate-read-11
-    slice-aggregate-read-12
     read-requires
     slice-aggregate-fold32
-    slice-aggregate-fold32-2
     fold32-requires
     fold32-requires-2
+    fold16-requires
+    slice-aggregate-fold32-2
     slice-aggregate-fold32-3
     slice-aggregate-fold32-4
     slice-aggregate-fold32-5
-    slice-aggregate-fold32-6
     fold32-requires-3
     fold32-requires-4
     fold32-requires-5
     fold32-requires-6
     slice-aggregate-fold8
-    slice-aggregate-fold32-7
+    slice-aggregate-fold32-6
     fold32-requires-7
     fold8-requires
     slice-aggregate-fold8-2
+    slice-aggregate-fold32-7
     slice-aggregate-fold32-8
-    slice-aggregate-fold32-9
     fold32-requires-8
     fold32-requires-9
     fold8-requires-2
     answered-requires
-    slice-aggregate-fold32-10
+    slice-aggregate-fold32-9
     fold32-requires-10
     agrees-requires
+    same-length
+    same-length-2
     returns)

@@ -5,11 +5,12 @@ use Rattle.batches.proofs.edges.first_batch_edge.Tie as tie
 use mathlib.Core.Path.{_≡_, sym, _∙_}
 use Prim.Native.Nat.{_≤_, _-_}
 use lib.ListN.{length}
+use Rattle.meaning.specs.Rows.{ageTable}
 use Rattle.meaning.specs.Join.{batchEdge}
 use Rattle.laws.specs.Counting.{Sought, sought-start, sought-hit, sought-miss, sought-none}
 
 abbrev Inv-loop : tie.InvT-loop
-Inv-loop len basetime basebirth baseidx time birth idx left right parent child i₀ i = (i ≤ length left) × Sought (batchEdge len (record { time = basetime; birth = basebirth }) (record { time = time; birth = birth }) (record { left = left; right = right; parent = parent; child = child })) (length left) i
+Inv-loop len basetime basebirth baseidx time birth idx left right parent child i₀ i = (i ≤ length left) × Sought (batchEdge len (ageTable basetime basebirth) (ageTable time birth) (record { left = left; right = right; parent = parent; child = child })) (length left) i
 
 abbrev μ-loop : tie.MeasureT-loop
 μ-loop len basetime basebirth baseidx time birth idx left right parent child i₀ i = length left - i

@@ -19,7 +19,7 @@ unfolding batchRules
 returns c = (sym (row-found _ _ _ _ _ (c .before .before .before .first-batch-birth .ensures .0) (c .if1 .taken)), c .before .before .before .first-batch-birth .ensures .1)
 
 first-batch-edge-requires : tie.Need-first-batch-edge-requires
-first-batch-edge-requires c κs = (c .before .before .before .before .before .before .before .before .before .before .before .before .before .before .before .before .before .before .before .before .before .before .before .before .pre .0 .base-long, c .before .before .before .before .before .before .before .before .before .before .before .before .before .before .before .before .before .before .before .before .before .before .before .before .pre .0 .shaped .births, record { right-long = c .before .before .before .before .before .before .before .before .before .before .before .before .before .before .before .before .before .before .before .before .before .before .before .before .pre .0 .shaped .rights; parent-long = c .before .before .before .before .before .before .before .before .before .before .before .before .before .before .before .before .before .before .before .before .before .before .before .before .pre .0 .shaped .parents; child-long = c .before .before .before .before .before .before .before .before .before .before .before .before .before .before .before .before .before .before .before .before .before .before .before .before .pre .0 .shaped .children }, record { ranked = λ e. c .before .before .before .before .before .before .before .before .before .before .before .before .before .before .before .before .before .before .before .before .before .before .before .before .pre .1 }, record { ranked = λ e. c .before .before .before .before .first-batch-birth .ensures .1 })
+first-batch-edge-requires c κs = (c .before .before .before .before .before .before .before .before .before .before .before .before .before .before .before .before .before .before .before .before .before .before .before .before .pre .0 .base-long, c .before .before .before .before .before .before .before .before .before .before .before .before .before .before .before .before .before .before .before .before .before .before .before .before .pre .0 .shaped .births, c .before .before .before .before .before .before .before .before .before .before .before .before .before .before .before .before .before .before .before .before .before .before .before .before .pre .0 .shaped .edges, record { ranked = λ e. c .before .before .before .before .before .before .before .before .before .before .before .before .before .before .before .before .before .before .before .before .before .before .before .before .pre .1 }, record { ranked = λ e. c .before .before .before .before .first-batch-birth .ensures .1 })
 
 same-length-2 : tie.Need-same-length-2
 same-length-2 c = search needs

@@ -33,25 +33,25 @@ slice-relend-prefix-with-sites : tie.Need-slice-relend-prefix-with-sites
 slice-relend-prefix-with-sites c = search needs
 
 slice-aggregate-with-sites : tie.Need-slice-aggregate-with-sites
-slice-aggregate-with-sites c = sym (length-take-le (c .before .before .before .before .before .before .fit .result) (c .before .before .before .before .before .before .before .before .before .before .before .before .before .before .before .before .before .before .before .before .args .out-left .now) (c .before .before .before .before .before .before .fit .ensures))
+slice-aggregate-with-sites c = sym (length-take-le (c .before .before .before .before .before .before .before .fit .result) (c .before .before .before .before .before .before .before .before .before .before .before .before .before .before .before .before .before .before .before .before .before .before .args .out-left .now) (c .before .before .before .before .before .before .before .fit .ensures))
 
 slice-relend-prefix-with-sites-2 : tie.Need-slice-relend-prefix-with-sites-2
 slice-relend-prefix-with-sites-2 c = search needs
 
 slice-aggregate-with-sites-2 : tie.Need-slice-aggregate-with-sites-2
-slice-aggregate-with-sites-2 c = sym (length-take-le (c .before .before .before .before .before .before .fit2 .result) (c .before .before .before .before .before .before .before .before .before .before .before .before .before .before .before .before .before .before .before .before .before .args .out-right .now) (c .before .before .before .before .before .before .fit2 .ensures))
+slice-aggregate-with-sites-2 c = sym (length-take-le (c .before .before .before .before .before .before .before .fit2 .result) (c .before .before .before .before .before .before .before .before .before .before .before .before .before .before .before .before .before .before .before .before .before .before .before .args .out-right .now) (c .before .before .before .before .before .before .before .fit2 .ensures))
 
 slice-relend-prefix-with-sites-3 : tie.Need-slice-relend-prefix-with-sites-3
 slice-relend-prefix-with-sites-3 c = search needs
 
 slice-aggregate-with-sites-3 : tie.Need-slice-aggregate-with-sites-3
-slice-aggregate-with-sites-3 c = sym (length-take-le (c .before .before .before .before .before .before .fit3 .result) (c .before .before .before .before .before .before .before .before .before .before .before .before .before .before .before .before .before .before .before .before .before .before .args .out-parent .now) (c .before .before .before .before .before .before .fit3 .ensures))
+slice-aggregate-with-sites-3 c = sym (length-take-le (c .before .before .before .before .before .before .before .fit3 .result) (c .before .before .before .before .before .before .before .before .before .before .before .before .before .before .before .before .before .before .before .before .before .before .before .before .args .out-parent .now) (c .before .before .before .before .before .before .before .fit3 .ensures))
 
 slice-relend-prefix-with-sites-4 : tie.Need-slice-relend-prefix-with-sites-4
 slice-relend-prefix-with-sites-4 c = search needs
 
 slice-aggregate-with-sites-4 : tie.Need-slice-aggregate-with-sites-4
-slice-aggregate-with-sites-4 c = sym (length-take-le (c .before .before .before .before .before .before .fit4 .result) (c .before .before .before .before .before .before .before .before .before .before .before .before .before .before .before .before .before .before .before .before .before .before .before .args .out-child .now) (c .before .before .before .before .before .before .fit4 .ensures))
+slice-aggregate-with-sites-4 c = sym (length-take-le (c .before .before .before .before .before .before .before .fit4 .result) (c .before .before .before .before .before .before .before .before .before .before .before .before .before .before .before .before .before .before .before .before .before .before .before .before .before .args .out-child .now) (c .before .before .before .before .before .before .before .fit4 .ensures))
 
 with-sites-requires : tie.Need-with-sites-requires
 with-sites-requires c κs = search needs
@@ -89,6 +89,9 @@ same-length-10 c = search needs
 same-length-11 : tie.Need-same-length-11
 same-length-11 c = search needs
 
+same-length-12 : tie.Need-same-length-12
+same-length-12 c = search needs
+
 returns : tie.Need-returns
 returns c = search needs
 
@@ -124,4 +127,5 @@ with-edges-spec =
     same-length-9
     same-length-10
     same-length-11
+    same-length-12
     returns)

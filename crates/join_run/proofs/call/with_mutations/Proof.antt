@@ -27,19 +27,19 @@ slice-relend-prefix-join-columns : tie.Need-slice-relend-prefix-join-columns
 slice-relend-prefix-join-columns c = search needs
 
 slice-aggregate-join-columns : tie.Need-slice-aggregate-join-columns
-slice-aggregate-join-columns c = sym (length-take-le (c .before .before .before .before .before .before .before .before .before .before .before .fit .result) (c .before .before .before .before .before .before .before .before .before .before .before .before .before .before .before .before .before .before .before .before .before .before .before .before .before .args .out-site .now) (c .before .before .before .before .before .before .before .before .before .before .before .fit .ensures))
+slice-aggregate-join-columns c = sym (length-take-le (c .before .before .before .before .before .before .before .before .before .before .before .before .fit .result) (c .before .before .before .before .before .before .before .before .before .before .before .before .before .before .before .before .before .before .before .before .before .before .before .before .before .before .before .args .out-site .now) (c .before .before .before .before .before .before .before .before .before .before .before .before .fit .ensures))
 
 slice-relend-prefix-join-columns-2 : tie.Need-slice-relend-prefix-join-columns-2
 slice-relend-prefix-join-columns-2 c = search needs
 
 slice-aggregate-join-columns-2 : tie.Need-slice-aggregate-join-columns-2
-slice-aggregate-join-columns-2 c = sym (length-take-le (c .before .before .before .before .before .before .before .before .before .before .before .fit2 .result) (c .before .before .before .before .before .before .before .before .before .before .before .before .before .before .before .before .before .before .before .before .before .before .before .before .before .before .args .out-node .now) (c .before .before .before .before .before .before .before .before .before .before .before .fit2 .ensures))
+slice-aggregate-join-columns-2 c = sym (length-take-le (c .before .before .before .before .before .before .before .before .before .before .before .before .fit2 .result) (c .before .before .before .before .before .before .before .before .before .before .before .before .before .before .before .before .before .before .before .before .before .before .before .before .before .before .before .before .args .out-node .now) (c .before .before .before .before .before .before .before .before .before .before .before .before .fit2 .ensures))
 
 slice-relend-prefix-join-columns-3 : tie.Need-slice-relend-prefix-join-columns-3
 slice-relend-prefix-join-columns-3 c = search needs
 
 slice-aggregate-join-columns-3 : tie.Need-slice-aggregate-join-columns-3
-slice-aggregate-join-columns-3 c = sym (length-take-le (c .before .before .before .before .before .before .before .before .before .before .before .fit3 .result) (c .before .before .before .before .before .before .before .before .before .before .before .before .before .before .before .before .before .before .before .before .before .before .before .before .before .before .before .args .out-derived .now) (c .before .before .before .before .before .before .before .before .before .before .before .fit3 .ensures))
+slice-aggregate-join-columns-3 c = sym (length-take-le (c .before .before .before .before .before .before .before .before .before .before .before .before .fit3 .result) (c .before .before .before .before .before .before .before .before .before .before .before .before .before .before .before .before .before .before .before .before .before .before .before .before .before .before .before .before .before .args .out-derived .now) (c .before .before .before .before .before .before .before .before .before .before .before .before .fit3 .ensures))
 
 join-columns-requires : tie.Need-join-columns-requires
 join-columns-requires c κs = search needs
@@ -77,6 +77,9 @@ same-length-10 c = search needs
 same-length-11 : tie.Need-same-length-11
 same-length-11 c = search needs
 
+same-length-12 : tie.Need-same-length-12
+same-length-12 c = search needs
+
 returns : tie.Need-returns
 returns c = search needs
 
@@ -108,4 +111,5 @@ with-mutations-spec =
     same-length-9
     same-length-10
     same-length-11
+    same-length-12
     returns)

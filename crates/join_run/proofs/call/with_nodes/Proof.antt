@@ -17,17 +17,29 @@ add-fit-2 c = search needs
 fit-requires-2 : tie.Need-fit-requires-2
 fit-requires-2 c κs = search needs
 
+add-fit-3 : tie.Need-add-fit-3
+add-fit-3 c = search needs
+
+fit-requires-3 : tie.Need-fit-requires-3
+fit-requires-3 c κs = search needs
+
 slice-relend-prefix-with-edges : tie.Need-slice-relend-prefix-with-edges
 slice-relend-prefix-with-edges c = search needs
 
 slice-aggregate-with-edges : tie.Need-slice-aggregate-with-edges
-slice-aggregate-with-edges c = sym (length-take-le (c .before .before .fit .result) (c .before .before .before .before .before .before .before .before .before .before .before .before .before .before .before .before .args .out-time .now) (c .before .before .fit .ensures))
+slice-aggregate-with-edges c = sym (length-take-le (c .before .before .before .fit .result) (c .before .before .before .before .before .before .before .before .before .before .before .before .before .before .before .before .before .before .args .out-time .now) (c .before .before .before .fit .ensures))
 
 slice-relend-prefix-with-edges-2 : tie.Need-slice-relend-prefix-with-edges-2
 slice-relend-prefix-with-edges-2 c = search needs
 
 slice-aggregate-with-edges-2 : tie.Need-slice-aggregate-with-edges-2
-slice-aggregate-with-edges-2 c = sym (length-take-le (c .before .before .fit2 .result) (c .before .before .before .before .before .before .before .before .before .before .before .before .before .before .before .before .before .args .out-birth .now) (c .before .before .fit2 .ensures))
+slice-aggregate-with-edges-2 c = sym (length-take-le (c .before .before .before .fit2 .result) (c .before .before .before .before .before .before .before .before .before .before .before .before .before .before .before .before .before .before .before .args .out-birth .now) (c .before .before .before .fit2 .ensures))
+
+slice-relend-prefix-with-edges-3 : tie.Need-slice-relend-prefix-with-edges-3
+slice-relend-prefix-with-edges-3 c = search needs
+
+slice-aggregate-with-edges-3 : tie.Need-slice-aggregate-with-edges-3
+slice-aggregate-with-edges-3 c = sym (length-take-le (c .before .before .before .fit3 .result) (c .before .before .before .before .before .before .before .before .before .before .before .before .before .before .before .before .before .before .before .before .args .out-population .now) (c .before .before .before .fit3 .ensures))
 
 with-edges-requires : tie.Need-with-edges-requires
 with-edges-requires c κs = search needs
@@ -65,6 +77,9 @@ same-length-10 c = search needs
 same-length-11 : tie.Need-same-length-11
 same-length-11 c = search needs
 
+same-length-12 : tie.Need-same-length-12
+same-length-12 c = search needs
+
 returns : tie.Need-returns
 returns c = search needs
 
@@ -76,10 +91,14 @@ with-nodes-spec =
     fit-requires
     add-fit-2
     fit-requires-2
+    add-fit-3
+    fit-requires-3
     slice-relend-prefix-with-edges
     slice-aggregate-with-edges
     slice-relend-prefix-with-edges-2
     slice-aggregate-with-edges-2
+    slice-relend-prefix-with-edges-3
+    slice-aggregate-with-edges-3
     with-edges-requires
     same-length
     same-length-2
@@ -92,4 +111,5 @@ with-nodes-spec =
     same-length-9
     same-length-10
     same-length-11
+    same-length-12
     returns)

@@ -21,13 +21,13 @@ slice-relend-prefix-with-mutations : tie.Need-slice-relend-prefix-with-mutations
 slice-relend-prefix-with-mutations c = search needs
 
 slice-aggregate-with-mutations : tie.Need-slice-aggregate-with-mutations
-slice-aggregate-with-mutations c = sym (length-take-le (c .before .before .before .before .before .before .before .before .fit .result) (c .before .before .before .before .before .before .before .before .before .before .before .before .before .before .before .before .before .before .before .before .before .before .args .out-position .now) (c .before .before .before .before .before .before .before .before .fit .ensures))
+slice-aggregate-with-mutations c = sym (length-take-le (c .before .before .before .before .before .before .before .before .before .fit .result) (c .before .before .before .before .before .before .before .before .before .before .before .before .before .before .before .before .before .before .before .before .before .before .before .before .args .out-position .now) (c .before .before .before .before .before .before .before .before .before .fit .ensures))
 
 slice-relend-prefix-with-mutations-2 : tie.Need-slice-relend-prefix-with-mutations-2
 slice-relend-prefix-with-mutations-2 c = search needs
 
 slice-aggregate-with-mutations-2 : tie.Need-slice-aggregate-with-mutations-2
-slice-aggregate-with-mutations-2 c = sym (length-take-le (c .before .before .before .before .before .before .before .before .fit2 .result) (c .before .before .before .before .before .before .before .before .before .before .before .before .before .before .before .before .before .before .before .before .before .before .before .args .out-ancestral .now) (c .before .before .before .before .before .before .before .before .fit2 .ensures))
+slice-aggregate-with-mutations-2 c = sym (length-take-le (c .before .before .before .before .before .before .before .before .before .fit2 .result) (c .before .before .before .before .before .before .before .before .before .before .before .before .before .before .before .before .before .before .before .before .before .before .before .before .before .args .out-ancestral .now) (c .before .before .before .before .before .before .before .before .before .fit2 .ensures))
 
 with-mutations-requires : tie.Need-with-mutations-requires
 with-mutations-requires c κs = search needs
@@ -65,6 +65,9 @@ same-length-10 c = search needs
 same-length-11 : tie.Need-same-length-11
 same-length-11 c = search needs
 
+same-length-12 : tie.Need-same-length-12
+same-length-12 c = search needs
+
 returns : tie.Need-returns
 returns c = search needs
 
@@ -92,4 +95,5 @@ with-sites-spec =
     same-length-9
     same-length-10
     same-length-11
+    same-length-12
     returns)

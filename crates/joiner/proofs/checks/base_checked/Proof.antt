@@ -10,7 +10,7 @@ check-lent-requires : tie.Need-check-lent-requires
 check-lent-requires c κs = search needs
 
 same-length : tie.Need-same-length
-same-length c = c .before .before .before .check-lent .kept .1 .1 .1 .1 .1 .1 .1 .1 .1 .1 .1 .1 .1 .0
+same-length c = c .before .before .before .check-lent .kept .1 .1 .1 .1 .1 .1 .1 .1 .1 .1 .1 .1 .1 .1 .0
 
 returns : tie.Need-returns
 returns c = (c .before .before .before .check-lent .ensures .0, record { births = λ q. c .before .before .before .check-lent .ensures .1 .births q })

@@ -4,7 +4,7 @@ use Prim.Native.Nat.{_-_}
 use native.Mathlib.Omega.{arith}
 use lib.ListN.{length}
 use borrow.Author.Needs.{needs}
-use Rattle.meaning.specs.Rows.{nodeTable, edgeTable, siteTable, mutationTable, tables}
+use Rattle.meaning.specs.Rows.{ageTable, edgeTable, siteTable, mutationTable, tables}
 use Rattle.carrying.specs.Work.{workOf}
 use Rattle.panel.specs.Block.{no-fish-yet}
 use Rattle.panel.proofs.Taking.{Taken, taken-more, portion-room, fish-all}
@@ -13,7 +13,7 @@ use Rattle.panel.proofs.portions.fill_fish.Tie as tie
 
 abbrev Inv-loop : tie.InvT-loop
 Inv-loop len time birth left right parent child position ancestral site node derived by-child by-birth ends edge-first edge-past mut-first mut-past sites fish rows₀ par₀ until₀ kid₀ kid-until₀ own₀ told₀ state₀ column₀ gaps₀ states₀ flags₀ last₀ stamp₀ base₀ rows par until kid kid-until own told state column gaps states flags last stamp base =
-    Taken (tables (nodeTable time birth) (edgeTable left right parent child) (siteTable position ancestral) (mutationTable site node derived)) sites fish
+    Taken (tables (ageTable time birth) (edgeTable left right parent child) (siteTable position ancestral) (mutationTable site node derived)) sites fish
     (workOf par₀ until₀ kid₀ kid-until₀ own₀ told₀ state₀) rows₀ column₀ gaps₀ states₀ flags₀
     (workOf par until kid kid-until own told state) rows column gaps states flags last stamp base
 

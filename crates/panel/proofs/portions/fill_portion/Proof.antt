@@ -4,7 +4,7 @@ use Prim.Native.Nat.{_-_}
 use native.Mathlib.Omega.{arith}
 use lib.ListN.{length}
 use borrow.Author.Needs.{needs}
-use Rattle.meaning.specs.Rows.{nodeTable, edgeTable, siteTable, mutationTable, tables}
+use Rattle.meaning.specs.Rows.{ageTable, edgeTable, siteTable, mutationTable, tables}
 use Rattle.carrying.specs.Work.{workOf}
 use Rattle.panel.specs.Block.{no-site-yet}
 use Rattle.panel.proofs.Taking.{Telling, rows-inside, told-more, sites-all}
@@ -13,7 +13,7 @@ use Rattle.panel.proofs.portions.fill_portion.Tie as tie
 
 abbrev Inv-loop : tie.InvT-loop
 Inv-loop len time birth left right parent child position ancestral site node derived by-child ends edge-first edge-past mut-first mut-past sites fish base rows k from t par₀ until₀ kid₀ kid-until₀ own₀ told₀ state₀ column₀ gaps₀ states₀ flags₀ last₀ stamp₀ j₀ par until kid kid-until own told state column gaps states flags last stamp j =
-    Telling (tables (nodeTable time birth) (edgeTable left right parent child) (siteTable position ancestral) (mutationTable site node derived)) sites fish base k
+    Telling (tables (ageTable time birth) (edgeTable left right parent child) (siteTable position ancestral) (mutationTable site node derived)) sites fish base k
     (workOf par₀ until₀ kid₀ kid-until₀ own₀ told₀ state₀) column₀ gaps₀ states₀ flags₀
     (workOf par until kid kid-until own told state) column gaps states flags last stamp j
 

@@ -2,6 +2,7 @@
 use mathlib.Core.Path.{sym, _∙_}
 use Prim.Native.Nat.{_≤_, _-_}
 use lib.ListN.{length}
+use Rattle.meaning.specs.Rows.{ageTable}
 use Rattle.meaning.specs.Check.{edgeUnordered}
 use Rattle.laws.specs.Counting.{Sought, sought-start, sought-hit, sought-miss, sought-none}
 use borrow.Author.Needs.{needs}
@@ -9,7 +10,7 @@ use Rattle.rules.proofs.edges.first_unordered.Statement.{statement}
 use Rattle.rules.proofs.edges.first_unordered.Tie as tie
 
 abbrev Inv-loop : tie.InvT-loop
-Inv-loop time birth left right parent child i₀ i = (i ≤ length left) × Sought (edgeUnordered (record { time = time; birth = birth }) (record { left = left; right = right; parent = parent; child = child })) (length left) i
+Inv-loop time birth left right parent child i₀ i = (i ≤ length left) × Sought (edgeUnordered (ageTable time birth) (record { left = left; right = right; parent = parent; child = child })) (length left) i
 
 abbrev μ-loop : tie.MeasureT-loop
 μ-loop time birth left right parent child i₀ i = length left - i

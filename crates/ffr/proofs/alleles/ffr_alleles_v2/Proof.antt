@@ -1,8 +1,8 @@
--- `ffr::alleles::ffr_alleles` meets its contract: a refusal packed, or 0.
+-- `ffr::alleles::ffr_alleles_v2` meets its contract: a refusal packed, or 0.
 use borrow.Author.Needs.{needs}
 use Rattle.ffr.proofs.Panels.{row-small, call-refused, call-done}
-use Rattle.ffr.proofs.alleles.ffr_alleles.Statement.{statement}
-use Rattle.ffr.proofs.alleles.ffr_alleles.Tie as tie
+use Rattle.ffr.proofs.alleles.ffr_alleles_v2.Statement.{statement}
+use Rattle.ffr.proofs.alleles.ffr_alleles_v2.Tie as tie
 
 alleles-requires : tie.Need-alleles-requires
 alleles-requires c κs = search needs
@@ -34,8 +34,8 @@ same-length-4 c = search needs
 returns-2 : tie.Need-returns-2
 returns-2 c = call-done _ _ _ _ _ _ _ _ _ (c .before .before .before .before .before .before .alleles .ensures) (c .enum-told .given .1)
 
-pub ffr-alleles-spec : {M : Type 1} → statement M
-ffr-alleles-spec =
+pub ffr-alleles-v2-spec : {M : Type 1} → statement M
+ffr-alleles-v2-spec =
     tie.close
     (tie.spec
     alleles-requires
