@@ -51,9 +51,13 @@ else
 CALLS := $(ARCHIVE)
 endif
 
-.PHONY: bench archive ctest example faults sanitize valgrind install clean-cpp FORCE
+.PHONY: bench archive attacks ctest example faults sanitize valgrind install clean-cpp FORCE
 
 archive: $(ARCHIVE)
+
+# The wrong programs that the gate has no time for: each must be refused by the prover. CRATES names some crates; all without it.
+attacks:
+	tools/attacks $(CRATES)
 
 bench: $(ARCHIVE)
 	CXX="$(CXX)" bench/run

@@ -17,13 +17,14 @@ use Rattle.bridge.specs.Rename.{near-here, near-top, near-step, near-inside}
 use Rattle.ancestry.specs.declared.Stretch.{Stretch}
 use Rattle.ancestry.specs.Column.{older}
 use Rattle.ancestry.specs.Older.{older-falls}
-use Rattle.alleles.specs.Marks.{marked}
+use Rattle.missing.specs.Marks.{marked}
 use Rattle.ancestry.specs.Rises.{parent-rises}
 use Rattle.ancestry.specs.Stretch.{another, until, nearUntil, stretchAt}
 use Rattle.alleles.specs.declared.Carrier.{Carrier}
 use Rattle.alleles.specs.declared.climb.Stop.{Stop}
 use Rattle.alleles.specs.declared.climb.Stop.the-variants.{Done, From}
-use Rattle.alleles.specs.Reading.{Climbable, CarrierAt, carriedBy}
+use Rattle.missing.specs.Climbable.{Climbable}
+use Rattle.alleles.specs.Reading.{CarrierAt, carriedBy}
 use Rattle.alleles.specs.Stops.{Reached, Onward, Led}
 use Rattle.alleles.specs.ByRows.{carried-none, carried-some}
 

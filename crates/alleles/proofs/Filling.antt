@@ -14,7 +14,7 @@ use Rattle.meaning.specs.Allele.{sits, carries, lastState}
 use Rattle.laws.specs.Bools.{eq?}
 use Rattle.laws.specs.Counting.{length-rows, get-rows}
 use Rattle.bridge.specs.Sites.{mutationRow, any-end, any-hit, any-miss, last-end, last-hit, last-miss}
-use Rattle.alleles.specs.Marks.{Naming, mark, markAfter, stateAfter, marksOf, statesOf}
+use Rattle.missing.specs.Marks.{Naming, mark, markAfter, stateAfter, marksOf, statesOf}
 
 -- a column filled up to its end is filled
 pub all-filled : (i v : ℕ) (d : List ℕ) → i ≤ length d → length d ≤ i → replicate i v ++ drop i d ≡ replicate (length d) v

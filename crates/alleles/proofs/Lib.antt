@@ -1,6 +1,5 @@
 -- Laws that belong to no one function.
 pub mod Filling
-pub mod Missing
 pub mod Climbing
 pub mod Calling
 pub mod Whole

@@ -18,9 +18,10 @@ use Rattle.bridge.specs.Columns.{Within, parent-names}
 use Rattle.bridge.specs.Sites.{pos-at, state-at, carries-names, last-names}
 use Rattle.ancestry.specs.Index.{Ends}
 use Rattle.ancestry.specs.Rises.{parent-rises}
-use Rattle.alleles.specs.Marks.{marked, Naming, mark, marksOf, statesOf}
-use Rattle.alleles.specs.Reading.{Climbable, carriedBy, Readable}
-use Rattle.alleles.specs.Alone.{childRow, missingRow, parent-there, child-there}
+use Rattle.missing.specs.Marks.{marked, Naming, mark, marksOf, statesOf}
+use Rattle.missing.specs.Climbable.{Climbable}
+use Rattle.alleles.specs.Reading.{carriedBy, Readable}
+use Rattle.missing.specs.Alone.{childRow, missingRow, parent-there, child-there}
 
 -- ---- the columns, cell by cell
 

@@ -15,16 +15,7 @@ use Rattle.ancestry.specs.Column.{older, Rising}
 use Rattle.ancestry.specs.Index.{Whole, Indexed}
 use Rattle.ancestry.specs.Stretch.{nearUntil}
 use Rattle.alleles.specs.declared.Carrier.{Carrier}
-use Rattle.alleles.specs.Marks.{marked, Naming}
-
--- what the way up from row u asks of the edges, their order by child with the ends, and the marks
-pub record Climbable (time : List ℕ) (E : EdgeColumns) (L : ℕ) (by ends has : List ℕ) (u : ℕ) : Type 0 where
-  pub indexed : Indexed E L by ends
-  pub rising : Rising time E
-  pub few : length time ≤ no-row
-  pub ends-long : length time ≤ length ends
-  pub long : length time ≤ length has
-  pub row : u < length time
+use Rattle.missing.specs.Marks.{marked, Naming}
 
 -- r is the first marked row at or above u at x, as a cell, and how far that way holds: any number of steps that is enough tells it
 pub record CarrierAt (time : List ℕ) (E : EdgeColumns) (L x : ℕ) (has : List ℕ) (u : ℕ) (r : Carrier) : Type 0 where

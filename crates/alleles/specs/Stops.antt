@@ -7,7 +7,7 @@ use Rattle.meaning.specs.Rows.{EdgeColumns}
 use Rattle.meaning.specs.Forest.{near}
 use Rattle.bridge.specs.Parents.{code, parentRow}
 use Rattle.ancestry.specs.Column.{older}
-use Rattle.alleles.specs.Marks.{marked}
+use Rattle.missing.specs.Marks.{marked}
 use Rattle.ancestry.specs.Stretch.{nearUntil}
 use Rattle.alleles.specs.declared.Carrier.{Carrier}
 use Rattle.alleles.specs.declared.climb.Stop.{Stop}

@@ -4,7 +4,8 @@ ghost use mathlib.Core.Path.{_≡_};
 ghost use Prim.Native.Nat.{_≤_, min};
 ghost use lib.ListN.{length};
 ghost use Rattle.meaning.specs.Rows.{edgeTable};
-ghost use Rattle.alleles.specs.Reading.{Climbable, CarrierAt, carriedBy};
+ghost use Rattle.missing.specs.Climbable.{Climbable};
+ghost use Rattle.alleles.specs.Reading.{CarrierAt, carriedBy};
 ghost use Rattle.alleles.specs.Stops.{Led};
 use super::Carrier;
 

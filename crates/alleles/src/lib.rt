@@ -9,10 +9,9 @@ ghost use Rattle.meaning.specs.Answer.{alleleOf, done, limits};
 ghost use Rattle.meaning.specs.Allele.{allele};
 ghost use Rattle.order.specs.Ranks.{Ranked};
 ghost use Rattle.alleles.specs.Call.{readOf, readAllele};
-ghost use Rattle.alleles.specs.Marks.{markAfter, stateAfter, Naming, marksOf, statesOf};
+ghost use Rattle.missing.specs.Marks.{markAfter, stateAfter, Naming, marksOf, statesOf};
 ghost use Rattle.alleles.specs.Reading.{Readable};
 
-pub mod alone; // whether a row is missing at a position
 pub mod climb; // the first marked row at or above a row
 
 use meaning::Allele;
@@ -129,7 +128,7 @@ pub fn row_allele(
     let mut state = [0u8; meaning::NodeTable::MOST];
     ancestry::index::fill_ends(left, right, parent, child, by_child, &mut ends);
     marks_at(site, node, derived, i, other, &mut has, &mut state);
-    if alone::is_missing(
+    if missing::is_missing(
         len,
         time,
         left,

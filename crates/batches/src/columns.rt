@@ -49,9 +49,9 @@ pub fn append_populations(a: &[u16], b: &[u16], out: &mut [u16])
     requires { ⌜ length (now a) + length (now b) ≤ length (now out) ⌝ }
     ensures { λ _. ⌜ now (out .exit) ≡ put (now (a .entry) ++ now (b .entry)) (now (out .entry)) ⌝ }
 {
-    let n = a.len() + b.len();
+    let both = a.len() + b.len();
     let mut i = 0;
-    while i < n {
+    while i < both {
         out[i] = joined_population(a, b, i);
         i += 1;
     }

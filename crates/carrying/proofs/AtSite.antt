@@ -15,8 +15,8 @@ use Rattle.laws.specs.Counting.{get-rows}
 use Rattle.bridge.specs.Parents.{no-row}
 use Rattle.bridge.specs.Sites.{mutationRow, any-end, any-miss, last-hit, last-miss}
 use Rattle.overtaking.specs.Known.{Known}
-use Rattle.alleles.specs.Marks.{marked, Naming, mark, marksOf, statesOf}
-use Rattle.alleles.specs.Alone.{missingRow}
+use Rattle.missing.specs.Marks.{marked, Naming, mark, marksOf, statesOf}
+use Rattle.missing.specs.Alone.{missingRow}
 use Rattle.alleles.specs.ByRows.{marks-at, states-at}
 use Rattle.carrying.specs.Kids.{KidsKnown}
 use Rattle.carrying.specs.Cells.{marksAt, statesAt, missingCell, carriedCell, stateCell, flagCell, ColumnAt}

@@ -12,7 +12,7 @@ use borrow.Author.Tests.{eqb-true, leb-true, leb-false, ltb-true, le-leb, lt-ltb
 use Rattle.meaning.specs.Words.{and, at, anyBelow}
 use Rattle.laws.specs.Bools.{clash, eq?, and-of, and-yes, not-true}
 use Rattle.laws.specs.Counting.{below-of, of-below}
-use Rattle.alleles.specs.Alone.{underRow, childRow}
+use Rattle.missing.specs.Alone.{underRow, childRow}
 use Rattle.carrying.specs.Spans.{InSpan}
 use Rattle.carrying.specs.Children.{Sooner, ChildHolds, ChildrenKnown}
 

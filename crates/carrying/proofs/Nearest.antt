@@ -14,7 +14,7 @@ use Rattle.bridge.specs.Rename.{near-here, near-top, near-step}
 use Rattle.ancestry.specs.Column.{older, Rising}
 use Rattle.ancestry.specs.Older.{older-falls}
 use Rattle.ancestry.specs.Rises.{parent-rises}
-use Rattle.alleles.specs.Marks.{marked}
+use Rattle.missing.specs.Marks.{marked}
 use Rattle.alleles.specs.Reading.{carriedBy}
 use Rattle.alleles.specs.ByRows.{carried-none, carried-some}
 use Rattle.alleles.proofs.Climbing.{older-few}

@@ -16,7 +16,7 @@ use Rattle.meaning.specs.Allele.{found}
 use Rattle.laws.specs.Bools.{eq?, or-right}
 use Rattle.bridge.specs.Parents.{parentRow}
 use Rattle.overtaking.proofs.Knowing.{still-keeping}
-use Rattle.alleles.specs.Alone.{childRow}
+use Rattle.missing.specs.Alone.{childRow}
 use Rattle.carrying.specs.Told.{Upwards, Handed, Told, Owned, Carried}
 use Rattle.carrying.specs.Column.{missingBy, stateBy, flagBy, Ready, RowTold, RowsTold}
 

@@ -6,9 +6,9 @@ use Prim.Native.Nat.{ℕ, _<_}
 use lib.ListN.{length}
 use Rattle.meaning.specs.Words.{at}
 use Rattle.meaning.specs.Rows.{Tables}
-use Rattle.alleles.specs.Marks.{marksOf, statesOf}
+use Rattle.missing.specs.Marks.{marksOf, statesOf}
 use Rattle.alleles.specs.Reading.{carriedBy}
-use Rattle.alleles.specs.Alone.{missingRow}
+use Rattle.missing.specs.Alone.{missingRow}
 
 -- the marks and the last states of all rows at site row i
 abbrev pub marksAt : Tables → ℕ → List ℕ

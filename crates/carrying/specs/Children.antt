@@ -7,7 +7,7 @@ use lib.Dec.{eqb}
 use lib.ListN.{length}
 use Rattle.meaning.specs.Words.{at}
 use Rattle.meaning.specs.Rows.{EdgeColumns}
-use Rattle.alleles.specs.Alone.{childRow}
+use Rattle.missing.specs.Alone.{childRow}
 use Rattle.carrying.specs.Kids.{KidsKnown}
 
 -- r is no later than the end, nor than edge row e begins, where that is an edge of u that begins after x

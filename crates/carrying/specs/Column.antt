@@ -10,7 +10,7 @@ use Rattle.meaning.specs.Allele.{found}
 use Rattle.bridge.specs.Parents.{no-row, parentRow}
 use Rattle.ancestry.specs.Column.{Rising}
 use Rattle.overtaking.specs.Known.{Keeping}
-use Rattle.alleles.specs.Alone.{childRow}
+use Rattle.missing.specs.Alone.{childRow}
 use Rattle.carrying.specs.Spans.{Spans}
 use Rattle.carrying.specs.Told.{Handed, Told, Owned}
 

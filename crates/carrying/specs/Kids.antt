@@ -6,7 +6,7 @@ use lib.Dec.{eqb}
 use lib.ListN.{length}
 use Rattle.meaning.specs.Words.{at}
 use Rattle.meaning.specs.Rows.{EdgeColumns}
-use Rattle.alleles.specs.Alone.{childRow}
+use Rattle.missing.specs.Alone.{childRow}
 
 -- from x on, and below its end, whether a row has a child is what is kept: 1 for yes
 pub record KidsKnown (E : EdgeColumns) (x : ℕ) (kid until : List ℕ) : Type 0 where

@@ -3,7 +3,7 @@ ghost use mathlib.Core.Path.{_≡_};
 ghost use Prim.Native.Nat.{_<_};
 ghost use lib.Dec.{eqb};
 ghost use lib.ListN.{length};
-ghost use Rattle.alleles.specs.Alone.{childRow};
+ghost use Rattle.missing.specs.Alone.{childRow};
 ghost use Rattle.carrying.specs.Spans.{Spans, InSpan};
 ghost use Rattle.carrying.specs.Children.{Sooner, ChildHolds, ChildrenKnown};
 
@@ -53,7 +53,7 @@ fn child_from(
     let mut e = from as usize;
     let past = to as usize;
     while e < past {
-        if alleles::alone::is_under(left, right, parent, x, u, e) {
+        if missing::is_under(left, right, parent, x, u, e) {
             return Below {
                 has: true,
                 end: right[e],

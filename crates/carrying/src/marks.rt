@@ -3,7 +3,7 @@ ghost use mathlib.Core.Path.{_≡_};
 ghost use Prim.Native.Nat.{_<_};
 ghost use lib.ListN.{length, set};
 ghost use Rattle.meaning.specs.Rows.{mutationTable};
-ghost use Rattle.alleles.specs.Marks.{Naming};
+ghost use Rattle.missing.specs.Marks.{Naming};
 ghost use Rattle.carrying.specs.Spans.{InSpan};
 ghost use Rattle.carrying.specs.Stamped.{Marked};
 

@@ -21,7 +21,7 @@ use Rattle.writing.specs.Block.{roomWithin}
 use Rattle.cleaner.specs.Sweeping.{Sweepable}
 use Rattle.cleaner.specs.Work.{Work, inputIn, Ready}
 use Rattle.cleaner.specs.Outcome.{afterCheck}
-use Rattle.cleaner.specs.Fitting.{RoomFor, stored-refused, stored-done}
+use Rattle.cleaner.specs.Fitting.{RoomFor, room-for, room-zero, stored-refused, stored-done}
 use Rattle.cleaner.specs.Finishing.{Fillable, Filled}
 use Rattle.cleaner.specs.Lists.{RoomForLists, ListsWritten}
 use Rattle.cleaner.specs.Results.{counted, kept-inside, times-is, births-is, populations-is, places-is, sites-is, parents-rows, children-rows, turns, listed-rows}
@@ -112,11 +112,11 @@ module _ {L : ℕ} {T : Tables} {S : List ℕ} {W : Work} (r : Ready L T S W) wh
   pub map-room : length (T .nodes .time) ≤ length (W .places)
   map-room = omega (arith, r .long .places, nodes-fit)
 
-  pub map-written : (old new : List ℕ) → new ≡ put (take (length (T .nodes .time)) (W .places)) old → new ≡ put (nodeMap stands L T S) old
+  map-written : (old new : List ℕ) → new ≡ put (take (length (T .nodes .time)) (W .places)) old → new ≡ put (nodeMap stands L T S) old
   map-written old new e = e ∙ ap (λ z. put z old) (sym (places-is L T S W r))
 
   -- the result stands at the fronts of the columns
-  pub all-written : (out out' : Tables) → out' .nodes .time ≡ put (map (at (T .nodes .time)) (take (W .nodes) (W .kept))) (out .nodes .time) → out' .nodes .birth ≡ put (map (at (T .nodes .birth)) (take (W .nodes) (W .kept))) (out .nodes .birth) → out' .nodes .population ≡ put (map (at (T .nodes .population)) (take (W .nodes) (W .kept))) (out .nodes .population) → out' .sites .position ≡ put (T .sites .position) (out .sites .position) → out' .sites .ancestral ≡ put (T .sites .ancestral) (out .sites .ancestral) → ListsWritten (cleaned stands L T S) (out .edges) (out' .edges) (out .muts) (out' .muts) → out' ≡ putAll (cleaned stands L T S) out
+  all-written : (out out' : Tables) → out' .nodes .time ≡ put (map (at (T .nodes .time)) (take (W .nodes) (W .kept))) (out .nodes .time) → out' .nodes .birth ≡ put (map (at (T .nodes .birth)) (take (W .nodes) (W .kept))) (out .nodes .birth) → out' .nodes .population ≡ put (map (at (T .nodes .population)) (take (W .nodes) (W .kept))) (out .nodes .population) → out' .sites .position ≡ put (T .sites .position) (out .sites .position) → out' .sites .ancestral ≡ put (T .sites .ancestral) (out .sites .ancestral) → ListsWritten (cleaned stands L T S) (out .edges) (out' .edges) (out .muts) (out' .muts) → out' ≡ putAll (cleaned stands L T S) out
   unfolding putAll
   all-written out out' a b p c d l = λ i. record {
     nodes = record {
@@ -141,10 +141,14 @@ module _ {L : ℕ} {T : Tables} {S : List ℕ} {W : Work} (r : Ready L T S W) (o
   unfolding afterCheck
   refused-after t z e = stored-refused (cleaned stands L T S) (nodeMap stands L T S) counts (counted L T S W r) out outMap cells t z e
 
-  -- all fits and is written
-  pub done-after : (t : ℕ) → t ≡ 0 → roomOf t ≡ roomWithin counts (lentBy out outMap) cells → (out' : Tables) (outMap' : List ℕ) → out' ≡ putAll (cleaned stands L T S) out → outMap' ≡ put (nodeMap stands L T S) outMap → record { answer = done; counts = record { nodes = W .nodes; edges = W .store .count; sites = length (T .sites .position); mutations = W .moves .count }; cells = out'; map = outMap' } ≡ afterCheck L T S out outMap cells
+  -- all fits, and each table is written
+  pub done-after : (t : ℕ) → t ≡ 0 → roomOf t ≡ roomWithin counts (lentBy out outMap) cells → (out' : Tables) (outMap' : List ℕ) → out' .nodes .time ≡ put (map (at (T .nodes .time)) (take (W .nodes) (W .kept))) (out .nodes .time) → out' .nodes .birth ≡ put (map (at (T .nodes .birth)) (take (W .nodes) (W .kept))) (out .nodes .birth) → out' .nodes .population ≡ put (map (at (T .nodes .population)) (take (W .nodes) (W .kept))) (out .nodes .population) → out' .sites .position ≡ put (T .sites .position) (out .sites .position) → out' .sites .ancestral ≡ put (T .sites .ancestral) (out .sites .ancestral) → ListsWritten (cleaned stands L T S) (out .edges) (out' .edges) (out .muts) (out' .muts) → outMap' ≡ put (take (length (T .nodes .time)) (W .places)) outMap → record { answer = done; counts = record { nodes = W .nodes; edges = W .store .count; sites = length (T .sites .position); mutations = W .moves .count }; cells = out'; map = outMap' } ≡ afterCheck L T S out outMap cells
   unfolding afterCheck
-  done-after t z e out' outMap' w v = stored-done (cleaned stands L T S) (nodeMap stands L T S) counts (counted L T S W r) out outMap cells t z e out' outMap' w v
+  done-after t z e out' outMap' a b p c d l v = stored-done (cleaned stands L T S) (nodeMap stands L T S) counts (counted L T S W r) out outMap cells t z e out' outMap' (all-written r out out' a b p c d l) (map-written r outMap outMap' v)
+
+-- a room test that finds nothing lacking leaves room for all
+pub room-left : (n : Needs) (l : Lent) (cells t : ℕ) → t ≡ 0 → roomOf t ≡ roomWithin n l cells → RoomFor n l
+room-left n l cells t z e = room-for n l cells (room-zero t n l cells z e)
 
 -- the room for tables 2 and 4 is part of the room for all
 pub lists-room : {n : Needs} {l : Lent} {E : EdgeColumns} {M : MutationColumns} → RoomFor n l → l .left ≡ length (E .left) → l .right ≡ length (E .right) → l .parent ≡ length (E .parent) → l .child ≡ length (E .child) → l .site ≡ length (M .site) → l .node ≡ length (M .node) → l .derived ≡ length (M .derived) → RoomForLists (n .edges) (n .mutations) E M

@@ -19,7 +19,8 @@ use Rattle.accepted.specs.Rooms.{fits-of, block-long}
 use Rattle.meaning.specs.declared.Tabled.{Tabled}
 use Rattle.meaning.specs.declared.Tabled.the-variants as code
 use Rattle.ffr.proofs.BatchRows.{low-join}
-use Rattle.ffr.proofs.Packing.{Counted, counts-small, block-kept}
+use Rattle.ffr.proofs.Packing.{counts-small, block-kept}
+use Rattle.ffr.specs.Told.{Counted, Tellable, Told}
 
 -- an outcome as C sees it
 abbrev callOf : JoinOutcome → List ℕ → JoinCall
@@ -34,11 +35,11 @@ module _ (L : ℕ) (T : Tables) (B : BatchTables) (out : Tables) (block : List �
   called q = ap (λ (o : JoinOutcome). callOf o block) (told q)
 
   -- a refusal's row is a number of four bytes
-  pub row-small : {r : Refusal} → x ≡ code.Refused r → refusalOf r .row < 4294967296
+  row-small : {r : Refusal} → x ≡ code.Refused r → refusalOf r .row < 4294967296
   unfolding joining
   row-small q = omega (arith, ap (λ (o : JoinOutcome). o .answer .row) (told q), low-join L T B out (length block))
 
-  pub call-refused : {r : Refusal} {v : ℕ} → x ≡ code.Refused r → v ≡ packed (refusalOf r) → _≡_ {A = JoinCall} (record { code = v; cells = cells; block = block }) (joinCall limits L T B out block)
+  call-refused : {r : Refusal} {v : ℕ} → x ≡ code.Refused r → v ≡ packed (refusalOf r) → _≡_ {A = JoinCall} (record { code = v; cells = cells; block = block }) (joinCall limits L T B out block)
   call-refused {r} q p = (λ i. record { code = p i; cells = cells; block = block-kept r (record { nodes = 0; edges = 0; sites = 0; mutations = 0 }) block i }) ∙ called q
 
   -- what comes after the check, after the batch's, and after the batch's rules
@@ -49,7 +50,7 @@ module _ (L : ℕ) (T : Tables) (B : BatchTables) (out : Tables) (block : List �
   batch-then = batchShapes B (batchSizes limits T B (batchRules L T B fit-then))
 
   -- after 0 the counts are numbers of four bytes, and the block has cells for them
-  pub counted : {n e s m : ℕ} → x ≡ code.Done n e s m → Counted (record { nodes = n; edges = e; sites = s; mutations = m }) (length block)
+  counted : {n e s m : ℕ} → x ≡ code.Done n e s m → Counted (record { nodes = n; edges = e; sites = s; mutations = m }) (length block)
   unfolding joining joinAnswer
   counted q =
       let h : Accepted (checkThen limits L T batch-then) = of-done (checkThen limits L T batch-then) (sym (ap (λ (o : JoinOutcome). o .answer) (told q))) in
@@ -58,6 +59,16 @@ module _ (L : ℕ) (T : Tables) (B : BatchTables) (out : Tables) (block : List �
       let f : _ = fits-of limits (joined L T B) out (blockThen (length block) done) (b .1) in
       counts-small (checkThen limits L T batch-then) (joined L T B) out (length block) _ (ap (λ (o : JoinOutcome). o .counts) (told q)) h (f .0) (block-long (length block) (f .1))
 
-  pub call-done : {n e s m : ℕ} {block' : List ℕ} → x ≡ code.Done n e s m → block' ≡ put (n ∷ e ∷ s ∷ m ∷ []) block → _≡_ {A = JoinCall} (record { code = 0; cells = cells; block = block' }) (joinCall limits L T B out block)
+  call-done : {n e s m : ℕ} {block' : List ℕ} → x ≡ code.Done n e s m → block' ≡ put (n ∷ e ∷ s ∷ m ∷ []) block → _≡_ {A = JoinCall} (record { code = 0; cells = cells; block = block' }) (joinCall limits L T B out block)
   unfolding packed blockBy left-by accepted
   call-done q p = (λ i. record { code = 0; cells = cells; block = p i }) ∙ called q
+
+  -- the answer fits the number and the block
+  pub tellable : (y : Tabled) → x ≡ y → Tellable y (length block)
+  tellable (code.Refused r) q = row-small q
+  tellable (code.Done n e s m) q = counted q
+
+  -- what C is told is what the call gives and leaves
+  pub call-told : (y : Tabled) → x ≡ y → (v : ℕ) (block' : List ℕ) → Told y block v block' → _≡_ {A = JoinCall} (record { code = v; cells = cells; block = block' }) (joinCall limits L T B out block)
+  call-told (code.Refused r) q v block' t = (λ i. record { code = v; cells = cells; block = t .1 i }) ∙ call-refused q (t .0)
+  call-told (code.Done n e s m) q v block' t = (λ i. record { code = t .0 i; cells = cells; block = block' }) ∙ call-done q (t .1)

@@ -5,7 +5,6 @@ ghost use Rattle.meaning.specs.Forest.{stands};
 ghost use Rattle.meaning.specs.Answer.{limits};
 ghost use Rattle.meaning.specs.Called.{CleanCall, cleanCall};
 use crate::pack;
-use meaning::Tabled;
 
 // The answer's number times 2^32 plus its row; after 0 the rows written in tables 1 to 4 stand in the block.
 #[no_mangle]
@@ -62,7 +61,7 @@ pub extern "C" fn ffr_clean_v2(
         (siteTable (now («out_position» .entry)) (now («out_ancestral» .entry)))
         (mutationTable (now («out_site» .entry)) (now («out_node» .entry)) (now («out_derived» .entry)))) (now («out_map» .entry)) (now (block .entry))) ⌝ }
 {
-    match cleaner::clean_within(
+    let answer = cleaner::clean(
         len,
         time,
         birth,
@@ -91,16 +90,6 @@ pub extern "C" fn ffr_clean_v2(
         out_derived,
         out_map,
         block.len(),
-    ) {
-        Tabled::Refused(x) => pack::pack(x),
-        Tabled::Done {
-            nodes,
-            edges,
-            sites,
-            mutations,
-        } => {
-            pack::put_block(block, nodes, edges, sites, mutations);
-            0
-        }
-    }
+    );
+    pack::tell(answer, block)
 }

@@ -5,7 +5,6 @@ ghost use Rattle.meaning.specs.Join.{batchTables};
 ghost use Rattle.meaning.specs.Answer.{limits};
 ghost use Rattle.meaning.specs.Called.{JoinCall, joinCall};
 use crate::pack;
-use meaning::Tabled;
 
 // The answer's number times 2^32 plus its row; after 0 the rows written in tables 1 to 4 stand in the block.
 #[no_mangle]
@@ -73,7 +72,7 @@ pub extern "C" fn ffr_join_v2(
         (siteTable (now («out_position» .entry)) (now («out_ancestral» .entry)))
         (mutationTable (now («out_site» .entry)) (now («out_node» .entry)) (now («out_derived» .entry)))) (now (block .entry))) ⌝ }
 {
-    match joiner::join_within(
+    let answer = joiner::join(
         len,
         basetime,
         basebirth,
@@ -110,16 +109,6 @@ pub extern "C" fn ffr_join_v2(
         out_node,
         out_derived,
         block.len(),
-    ) {
-        Tabled::Refused(x) => pack::pack(x),
-        Tabled::Done {
-            nodes,
-            edges,
-            sites,
-            mutations,
-        } => {
-            pack::put_block(block, nodes, edges, sites, mutations);
-            0
-        }
-    }
+    );
+    pack::tell(answer, block)
 }

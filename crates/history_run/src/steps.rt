@@ -47,214 +47,7 @@ fn answered(r: Tabled) -> Seen {
     }
 }
 
-// The record joined with the batch whose pairs start at this cell, the populations of both beside them.
-fn join_given(
-    w: &[u32],
-    bytes: &[u8],
-    at: usize,
-    rec: &[u32],
-    states: &[u8],
-    base: &[u16],
-    young: &[u16],
-    out_time: &mut [u32],
-    out_birth: &mut [u32],
-    out_population: &mut [u16],
-    out_left: &mut [u32],
-    out_right: &mut [u32],
-    out_parent: &mut [u32],
-    out_child: &mut [u32],
-    out_position: &mut [u32],
-    out_ancestral: &mut [u8],
-    out_site: &mut [u32],
-    out_node: &mut [u32],
-    out_derived: &mut [u8],
-) -> Seen {
-    answered(joiner::join(
-        cases::get(w, 0),
-        cases::column(rec, 0, 0),
-        cases::column(rec, 0, 1),
-        base,
-        cases::column(rec, 0, 2),
-        cases::column(rec, 0, 3),
-        cases::column(rec, 0, 4),
-        cases::column(rec, 0, 5),
-        cases::column(rec, 0, 6),
-        cases::states(states, rec, 0, 7),
-        cases::column(rec, 0, 8),
-        cases::column(rec, 0, 9),
-        cases::states(states, rec, 0, 10),
-        cases::column(w, at, 0),
-        cases::column(w, at, 1),
-        young,
-        cases::column(w, at, 2),
-        cases::column(w, at, 3),
-        cases::column(w, at, 4),
-        cases::column(w, at, 5),
-        cases::column(w, at, 6),
-        cases::column(w, at, 7),
-        cases::states(bytes, w, at, 8),
-        out_time,
-        out_birth,
-        out_population,
-        out_left,
-        out_right,
-        out_parent,
-        out_child,
-        out_position,
-        out_ancestral,
-        out_site,
-        out_node,
-        out_derived,
-    ))
-}
-
-// The same with the populations in cells of their width.
-fn join_columns(
-    w: &[u32],
-    bytes: &[u8],
-    at: usize,
-    rec: &[u32],
-    states: &[u8],
-    out_time: &mut [u32],
-    out_birth: &mut [u32],
-    out_population: &mut [u16],
-    out_left: &mut [u32],
-    out_right: &mut [u32],
-    out_parent: &mut [u32],
-    out_child: &mut [u32],
-    out_position: &mut [u32],
-    out_ancestral: &mut [u8],
-    out_site: &mut [u32],
-    out_node: &mut [u32],
-    out_derived: &mut [u8],
-) -> Seen {
-    let first = cases::column(rec, 0, 11);
-    let more = cases::column(w, at, 9);
-    let mut base = [0u16; NODES];
-    let mut young = [0u16; NODES];
-    cases::narrow(first, &mut base);
-    cases::narrow(more, &mut young);
-    join_given(
-        w,
-        bytes,
-        at,
-        rec,
-        states,
-        cases::front_stocks(&base, first.len()),
-        cases::front_stocks(&young, more.len()),
-        out_time,
-        out_birth,
-        out_population,
-        out_left,
-        out_right,
-        out_parent,
-        out_child,
-        out_position,
-        out_ancestral,
-        out_site,
-        out_node,
-        out_derived,
-    )
-}
-
-// The record cleaned for the list whose pair stands at this cell, its populations beside it.
-fn clean_given(
-    w: &[u32],
-    at: usize,
-    rec: &[u32],
-    states: &[u8],
-    population: &[u16],
-    out_time: &mut [u32],
-    out_birth: &mut [u32],
-    out_population: &mut [u16],
-    out_left: &mut [u32],
-    out_right: &mut [u32],
-    out_parent: &mut [u32],
-    out_child: &mut [u32],
-    out_position: &mut [u32],
-    out_ancestral: &mut [u8],
-    out_site: &mut [u32],
-    out_node: &mut [u32],
-    out_derived: &mut [u8],
-    out_map: &mut [u32],
-) -> Seen {
-    answered(cleaner::clean(
-        cases::get(w, 0),
-        cases::column(rec, 0, 0),
-        cases::column(rec, 0, 1),
-        population,
-        cases::column(rec, 0, 2),
-        cases::column(rec, 0, 3),
-        cases::column(rec, 0, 4),
-        cases::column(rec, 0, 5),
-        cases::column(rec, 0, 6),
-        cases::states(states, rec, 0, 7),
-        cases::column(rec, 0, 8),
-        cases::column(rec, 0, 9),
-        cases::states(states, rec, 0, 10),
-        cases::column(w, at, 0),
-        out_time,
-        out_birth,
-        out_population,
-        out_left,
-        out_right,
-        out_parent,
-        out_child,
-        out_position,
-        out_ancestral,
-        out_site,
-        out_node,
-        out_derived,
-        out_map,
-    ))
-}
-
-// The same with the populations in cells of their width.
-fn clean_columns(
-    w: &[u32],
-    at: usize,
-    rec: &[u32],
-    states: &[u8],
-    out_time: &mut [u32],
-    out_birth: &mut [u32],
-    out_population: &mut [u16],
-    out_left: &mut [u32],
-    out_right: &mut [u32],
-    out_parent: &mut [u32],
-    out_child: &mut [u32],
-    out_position: &mut [u32],
-    out_ancestral: &mut [u8],
-    out_site: &mut [u32],
-    out_node: &mut [u32],
-    out_derived: &mut [u8],
-    out_map: &mut [u32],
-) -> Seen {
-    let given = cases::column(rec, 0, 11);
-    let mut population = [0u16; NODES];
-    cases::narrow(given, &mut population);
-    clean_given(
-        w,
-        at,
-        rec,
-        states,
-        cases::front_stocks(&population, given.len()),
-        out_time,
-        out_birth,
-        out_population,
-        out_left,
-        out_right,
-        out_parent,
-        out_child,
-        out_position,
-        out_ancestral,
-        out_site,
-        out_node,
-        out_derived,
-        out_map,
-    )
-}
-
-// Joins a batch to the record; false where that is refused.
+// Joins the batch whose pairs start at this cell to the record; false where that is refused.
 pub fn join(w: &[u32], bytes: &[u8], at: usize, rec: &mut [u32], states: &mut [u8]) -> bool {
     let mut time = [0u32; NODES];
     let mut birth = [0u32; NODES];
@@ -268,12 +61,39 @@ pub fn join(w: &[u32], bytes: &[u8], at: usize, rec: &mut [u32], states: &mut [u
     let mut site = [0u32; MUTATIONS];
     let mut node = [0u32; MUTATIONS];
     let mut derived = [0u8; MUTATIONS];
-    let seen = join_columns(
-        w,
-        bytes,
-        at,
-        rec,
-        states,
+    // The record is lent once for all its columns: each lending is a step to prove.
+    let old: &[u32] = rec;
+    let old_states: &[u8] = states;
+    let first = cases::column(old, 0, 11);
+    let more = cases::column(w, at, 9);
+    let mut base = [0u16; NODES];
+    let mut young = [0u16; NODES];
+    cases::narrow(first, &mut base);
+    cases::narrow(more, &mut young);
+    let seen = answered(joiner::join(
+        cases::get(w, 0),
+        cases::column(old, 0, 0),
+        cases::column(old, 0, 1),
+        cases::front_stocks(&base, first.len()),
+        cases::column(old, 0, 2),
+        cases::column(old, 0, 3),
+        cases::column(old, 0, 4),
+        cases::column(old, 0, 5),
+        cases::column(old, 0, 6),
+        cases::states(old_states, old, 0, 7),
+        cases::column(old, 0, 8),
+        cases::column(old, 0, 9),
+        cases::states(old_states, old, 0, 10),
+        cases::column(w, at, 0),
+        cases::column(w, at, 1),
+        cases::front_stocks(&young, more.len()),
+        cases::column(w, at, 2),
+        cases::column(w, at, 3),
+        cases::column(w, at, 4),
+        cases::column(w, at, 5),
+        cases::column(w, at, 6),
+        cases::column(w, at, 7),
+        cases::states(bytes, w, at, 8),
         &mut time,
         &mut birth,
         &mut population,
@@ -286,7 +106,8 @@ pub fn join(w: &[u32], bytes: &[u8], at: usize, rec: &mut [u32], states: &mut [u
         &mut site,
         &mut node,
         &mut derived,
-    );
+        writing::within::BLOCK,
+    ));
     if !seen.done {
         return false;
     }
@@ -313,7 +134,7 @@ pub fn join(w: &[u32], bytes: &[u8], at: usize, rec: &mut [u32], states: &mut [u
     true
 }
 
-// Cleans the record; false where that is refused.
+// Cleans the record for the list whose pair stands at this cell; false where that is refused.
 pub fn clean(w: &[u32], at: usize, rec: &mut [u32], states: &mut [u8]) -> bool {
     let mut time = [0u32; NODES];
     let mut birth = [0u32; NODES];
@@ -328,11 +149,27 @@ pub fn clean(w: &[u32], at: usize, rec: &mut [u32], states: &mut [u8]) -> bool {
     let mut node = [0u32; MUTATIONS];
     let mut derived = [0u8; MUTATIONS];
     let mut map = [0u32; NODES];
-    let seen = clean_columns(
-        w,
-        at,
-        rec,
-        states,
+    // The record is lent once for all its columns: each lending is a step to prove.
+    let old: &[u32] = rec;
+    let old_states: &[u8] = states;
+    let given = cases::column(old, 0, 11);
+    let mut stocks = [0u16; NODES];
+    cases::narrow(given, &mut stocks);
+    let seen = answered(cleaner::clean(
+        cases::get(w, 0),
+        cases::column(old, 0, 0),
+        cases::column(old, 0, 1),
+        cases::front_stocks(&stocks, given.len()),
+        cases::column(old, 0, 2),
+        cases::column(old, 0, 3),
+        cases::column(old, 0, 4),
+        cases::column(old, 0, 5),
+        cases::column(old, 0, 6),
+        cases::states(old_states, old, 0, 7),
+        cases::column(old, 0, 8),
+        cases::column(old, 0, 9),
+        cases::states(old_states, old, 0, 10),
+        cases::column(w, at, 0),
         &mut time,
         &mut birth,
         &mut population,
@@ -346,7 +183,8 @@ pub fn clean(w: &[u32], at: usize, rec: &mut [u32], states: &mut [u8]) -> bool {
         &mut node,
         &mut derived,
         &mut map,
-    );
+        writing::within::BLOCK,
+    ));
     if !seen.done {
         return false;
     }

@@ -1,6 +1,5 @@
-// The lent columns of a case, held to those due.
+// The join of a case on columns of the lent lengths, and the columns held to those due.
 use crate::answer;
-use crate::call;
 
 // Cells of lent columns: two more than the limit, so that a room of one more still has a cell past it.
 const NODES: usize = meaning::NodeTable::MOST + 2;
@@ -11,7 +10,16 @@ const SITES: usize = meaning::SiteTable::MOST + 2;
 
 const MUTATIONS: usize = meaning::MutationTable::MOST + 2;
 
-// Where start and length of each column due stand in a case's numbers.
+// Where the parts of a case's numbers start: L, the lent lengths, then start and length of each column of the base, of the batch and of those due.
+// The population is the last column of each.
+const LENGTH: usize = 0;
+
+const LENT: usize = 7;
+
+const BASE: usize = 19;
+
+const BATCH: usize = 43;
+
 const DUE: usize = 63;
 
 // Whether the k-th column is the one due.
@@ -82,22 +90,50 @@ pub fn goes(w: &[u32], bytes: &[u8]) -> bool {
     let mut site = [cases::PATTERN; MUTATIONS];
     let mut node = [cases::PATTERN; MUTATIONS];
     let mut derived = [cases::MARK; MUTATIONS];
-    let seen = call::with_nodes(
-        w,
-        bytes,
-        &mut time,
-        &mut birth,
-        &mut population,
-        &mut left,
-        &mut right,
-        &mut parent,
-        &mut child,
-        &mut position,
-        &mut ancestral,
-        &mut site,
-        &mut node,
-        &mut derived,
-    );
+    let first = cases::column(w, BASE, 11);
+    let more = cases::column(w, BATCH, 9);
+    let mut base = [0u16; NODES];
+    let mut young = [0u16; NODES];
+    cases::narrow(first, &mut base);
+    cases::narrow(more, &mut young);
+    let seen = answer::answered(joiner::join(
+        cases::get(w, LENGTH),
+        cases::column(w, BASE, 0),
+        cases::column(w, BASE, 1),
+        cases::front_stocks(&base, first.len()),
+        cases::column(w, BASE, 2),
+        cases::column(w, BASE, 3),
+        cases::column(w, BASE, 4),
+        cases::column(w, BASE, 5),
+        cases::column(w, BASE, 6),
+        cases::states(bytes, w, BASE, 7),
+        cases::column(w, BASE, 8),
+        cases::column(w, BASE, 9),
+        cases::states(bytes, w, BASE, 10),
+        cases::column(w, BATCH, 0),
+        cases::column(w, BATCH, 1),
+        cases::front_stocks(&young, more.len()),
+        cases::column(w, BATCH, 2),
+        cases::column(w, BATCH, 3),
+        cases::column(w, BATCH, 4),
+        cases::column(w, BATCH, 5),
+        cases::column(w, BATCH, 6),
+        cases::column(w, BATCH, 7),
+        cases::states(bytes, w, BATCH, 8),
+        &mut time[..cases::fit(w, LENT + 0, NODES)],
+        &mut birth[..cases::fit(w, LENT + 1, NODES)],
+        &mut population[..cases::fit(w, LENT + 11, NODES)],
+        &mut left[..cases::fit(w, LENT + 2, EDGES)],
+        &mut right[..cases::fit(w, LENT + 3, EDGES)],
+        &mut parent[..cases::fit(w, LENT + 4, EDGES)],
+        &mut child[..cases::fit(w, LENT + 5, EDGES)],
+        &mut position[..cases::fit(w, LENT + 6, SITES)],
+        &mut ancestral[..cases::fit(w, LENT + 7, SITES)],
+        &mut site[..cases::fit(w, LENT + 8, MUTATIONS)],
+        &mut node[..cases::fit(w, LENT + 9, MUTATIONS)],
+        &mut derived[..cases::fit(w, LENT + 10, MUTATIONS)],
+        writing::within::BLOCK,
+    ));
     if !answer::agrees(w, seen) {
         return false;
     }

@@ -1,7 +1,6 @@
 // Runs the join on the cases of standard input, which cases.py made with a join of its own,
 // and says for each group how many cases there were and how many differ.
 mod answer;
-mod call;
 mod held;
 
 use libc::STDOUT_FILENO;

@@ -4,10 +4,8 @@ ghost use mathlib.Core.List.{_++_};
 ghost use Prim.Native.Nat.{_+_, _≤_};
 ghost use lib.ListN.{length};
 ghost use Rattle.meaning.specs.Rows.{nodeTable, edgeTable, siteTable, mutationTable, tables};
-ghost use Rattle.meaning.specs.Answer.{done, limits, put};
-ghost use Rattle.meaning.specs.Lent.{cellsBy};
-ghost use Rattle.meaning.specs.Join.{batchTables, joinedOf, joined};
-ghost use Rattle.accepted.specs.Rooms.{Fits};
+ghost use Rattle.meaning.specs.Answer.{put};
+ghost use Rattle.meaning.specs.Join.{batchTables, joinedOf};
 ghost use Rattle.order.specs.Ranks.{Ranked};
 ghost use Rattle.writing.specs.Room.{roomOf};
 ghost use Rattle.joiner.specs.Joinable.{Joinable};
@@ -18,7 +16,7 @@ use meaning::Refusal;
 use meaning::Tabled;
 
 // The rows of a call's block, which has a count for each of tables 1 to 4.
-pub const COUNTS: usize = 4;
+const COUNTS: usize = 4;
 
 // 13: the lowest table whose rows pass its limit or find no room, then the block of row counts; 0 where all fit.
 fn no_room(
@@ -109,143 +107,6 @@ fn write_sites(
 {
     writing::copy(position, position.len(), out_position);
     writing::copy_states(ancestral, position.len(), out_ancestral);
-}
-
-// All four tables, with the nodes of base and batch by birth.
-fn write_all(
-    len: u32,
-    basetime: &[u32],
-    basebirth: &[u32],
-    basepopulation: &[u16],
-    base_by_birth: &[u32],
-    baseleft: &[u32],
-    baseright: &[u32],
-    baseparent: &[u32],
-    basechild: &[u32],
-    position: &[u32],
-    ancestral: &[u8],
-    basesite: &[u32],
-    basenode: &[u32],
-    basederived: &[u8],
-    time: &[u32],
-    birth: &[u32],
-    population: &[u16],
-    by_birth: &[u32],
-    left: &[u32],
-    right: &[u32],
-    parent: &[u32],
-    child: &[u32],
-    site: &[u32],
-    node: &[u32],
-    derived: &[u8],
-    out_time: &mut [u32],
-    out_birth: &mut [u32],
-    out_population: &mut [u16],
-    out_left: &mut [u32],
-    out_right: &mut [u32],
-    out_parent: &mut [u32],
-    out_child: &mut [u32],
-    out_position: &mut [u32],
-    out_ancestral: &mut [u8],
-    out_site: &mut [u32],
-    out_node: &mut [u32],
-    out_derived: &mut [u8],
-)
-    requires { ⌜
-        Joinable len
-        (tables
-        (nodeTable (now basetime) (now basebirth) (now basepopulation))
-        (edgeTable (now baseleft) (now baseright) (now baseparent) (now basechild))
-        (siteTable (now position) (now ancestral))
-        (mutationTable (now basesite) (now basenode) (now basederived)))
-        (batchTables
-        (nodeTable (now time) (now birth) (now population))
-        (edgeTable (now left) (now right) (now parent) (now child))
-        (mutationTable (now site) (now node) (now derived))) × Fits limits (joined len
-        (tables
-        (nodeTable (now basetime) (now basebirth) (now basepopulation))
-        (edgeTable (now baseleft) (now baseright) (now baseparent) (now basechild))
-        (siteTable (now position) (now ancestral))
-        (mutationTable (now basesite) (now basenode) (now basederived)))
-        (batchTables
-        (nodeTable (now time) (now birth) (now population))
-        (edgeTable (now left) (now right) (now parent) (now child))
-        (mutationTable (now site) (now node) (now derived))))
-        (tables
-        (nodeTable (now «out_time») (now «out_birth») (now «out_population»))
-        (edgeTable (now «out_left») (now «out_right») (now «out_parent») (now «out_child»))
-        (siteTable (now «out_position») (now «out_ancestral»))
-        (mutationTable (now «out_site») (now «out_node») (now «out_derived»))) × Ranked (now basebirth) (now «base_by_birth») × Ranked (now birth) (now «by_birth») ⌝ }
-    ensures { λ _. ⌜
-        (tables
-        (nodeTable (now («out_time» .exit)) (now («out_birth» .exit)) (now («out_population» .exit)))
-        (edgeTable (now («out_left» .exit)) (now («out_right» .exit)) (now («out_parent» .exit)) (now («out_child» .exit)))
-        (siteTable (now («out_position» .exit)) (now («out_ancestral» .exit)))
-        (mutationTable (now («out_site» .exit)) (now («out_node» .exit)) (now («out_derived» .exit))))
-        ≡ cellsBy done (joined len
-        (tables
-        (nodeTable (now (basetime .entry)) (now (basebirth .entry)) (now (basepopulation .entry)))
-        (edgeTable (now (baseleft .entry)) (now (baseright .entry)) (now (baseparent .entry)) (now (basechild .entry)))
-        (siteTable (now (position .entry)) (now (ancestral .entry)))
-        (mutationTable (now (basesite .entry)) (now (basenode .entry)) (now (basederived .entry))))
-        (batchTables
-        (nodeTable (now (time .entry)) (now (birth .entry)) (now (population .entry)))
-        (edgeTable (now (left .entry)) (now (right .entry)) (now (parent .entry)) (now (child .entry)))
-        (mutationTable (now (site .entry)) (now (node .entry)) (now (derived .entry)))))
-        (tables
-        (nodeTable (now («out_time» .entry)) (now («out_birth» .entry)) (now («out_population» .entry)))
-        (edgeTable (now («out_left» .entry)) (now («out_right» .entry)) (now («out_parent» .entry)) (now («out_child» .entry)))
-        (siteTable (now («out_position» .entry)) (now («out_ancestral» .entry)))
-        (mutationTable (now («out_site» .entry)) (now («out_node» .entry)) (now («out_derived» .entry)))) ⌝ }
-{
-    write_nodes(
-        basetime,
-        basebirth,
-        basepopulation,
-        time,
-        birth,
-        population,
-        out_time,
-        out_birth,
-        out_population,
-    );
-    joint::edges::join_edges(
-        len,
-        basetime,
-        basebirth,
-        base_by_birth,
-        baseleft,
-        baseright,
-        baseparent,
-        basechild,
-        time,
-        birth,
-        by_birth,
-        left,
-        right,
-        parent,
-        child,
-        out_left,
-        out_right,
-        out_parent,
-        out_child,
-    );
-    write_sites(position, ancestral, out_position, out_ancestral);
-    joint::mutations::join_mutations(
-        basebirth,
-        base_by_birth,
-        birth,
-        by_birth,
-        basesite,
-        basenode,
-        basederived,
-        site,
-        node,
-        derived,
-        out_site,
-        out_node,
-        out_derived,
-    );
 }
 
 // 13 with nothing written, or 0 with the result at the front of each column; base_by_birth and by_birth have the nodes by birth.
@@ -348,41 +209,50 @@ pub fn store(
     if t != 0 {
         return Tabled::Refused(Refusal::NoRoom(t));
     }
-    write_all(
-        len,
+    write_nodes(
         basetime,
         basebirth,
         basepopulation,
+        time,
+        birth,
+        population,
+        out_time,
+        out_birth,
+        out_population,
+    );
+    joint::edges::join_edges(
+        len,
+        basetime,
+        basebirth,
         base_by_birth,
         baseleft,
         baseright,
         baseparent,
         basechild,
-        position,
-        ancestral,
-        basesite,
-        basenode,
-        basederived,
         time,
         birth,
-        population,
         by_birth,
         left,
         right,
         parent,
         child,
-        site,
-        node,
-        derived,
-        out_time,
-        out_birth,
-        out_population,
         out_left,
         out_right,
         out_parent,
         out_child,
-        out_position,
-        out_ancestral,
+    );
+    write_sites(position, ancestral, out_position, out_ancestral);
+    joint::mutations::join_mutations(
+        basebirth,
+        base_by_birth,
+        birth,
+        by_birth,
+        basesite,
+        basenode,
+        basederived,
+        site,
+        node,
+        derived,
         out_site,
         out_node,
         out_derived,

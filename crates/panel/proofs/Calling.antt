@@ -3,7 +3,7 @@ use mathlib.Core.Path.{_≡_, refl, sym, ap, subst, _∙_}
 use mathlib.Core.Bool.{Bool, true, false, not}
 use mathlib.Core.List.{List, [], _∷_, _++_, map}
 use mathlib.Core.Logic.{_⊎_, inl, inr}
-use Prim.Native.Nat.{ℕ, zero, suc, _*_, _<_, _≤_}
+use Prim.Native.Nat.{ℕ, zero, suc, _*_, _<_, _≤_, min}
 use native.Mathlib.Omega.{arith}
 use lib.Dec.{leb}
 use lib.ListN.{length, replicate, take, length-replicate}
@@ -30,7 +30,7 @@ use Rattle.ancestry.specs.Index.{Ends}
 use Rattle.alleles.specs.Reading.{Readable}
 use Rattle.carrying.specs.Spans.{Spans}
 use Rattle.carrying.specs.Work.{Work, workOf, Kept, indexBy, Prepared}
-use Rattle.panel.specs.Lists.{readings, AllThere, FirstIs, ListsTold}
+use Rattle.blocks.specs.Lists.{readings, AllThere, FirstIs, ListsTold}
 use Rattle.panel.specs.Whole.{SitesNamed, roomThen, afterCheck, end-refused, first-refused}
 
 -- ---- fresh columns
@@ -93,6 +93,21 @@ short-of {a} {b} t n e = leb-false a b (sym e ∙ not-of t n)
 
 pub enough-of : {a b : ℕ} (t : Bool) → not t ≡ false → t ≡ leb a b → a ≤ b
 enough-of {a} {b} t n e = leb-true a b (sym e ∙ not-no t n)
+
+-- one of two blocks is short where the lesser is
+pub one-short : {a s f : ℕ} (t : Bool) → not t ≡ true → t ≡ leb a (min s f) → (s < a) ⊎ (f < a)
+one-short {a} {s} {f} t n e = go (leb s f) refl
+  where
+    short : min s f < a
+    short = short-of t n e
+
+    go : (b : Bool) → leb s f ≡ b → (s < a) ⊎ (f < a)
+    go true k = let h : s ≤ f = leb-true s f k in inl (omega (arith, short))
+    go false k = let h : f < s = leb-false s f k in inr (omega (arith, short))
+
+-- both blocks are long enough where the lesser is
+pub both-long : {a s f : ℕ} (t : Bool) → not t ≡ false → t ≡ leb a (min s f) → (a ≤ s) × (a ≤ f)
+both-long {a} {s} {f} t n e = let h : a ≤ min s f = enough-of t n e in (omega arith, omega arith)
 
 -- ---- the check before
 

@@ -1,5 +1,3 @@
 -- Laws that belong to no one function.
-pub mod Searching
-pub mod Scattering
 pub mod Taking
 pub mod Calling

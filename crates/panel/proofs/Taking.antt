@@ -14,8 +14,8 @@ use Rattle.laws.specs.Members.{index-below}
 use Rattle.order.specs.Lex.{trichotomy}
 use Rattle.carrying.specs.Cells.{stateCell, flagCell, ColumnAt}
 use Rattle.carrying.specs.Work.{Work, Kept}
-use Rattle.panel.specs.Block.{Scattered, SitesWritten, FishWritten, site-more, fish-more, rows-rise}
-use Rattle.panel.specs.Lists.{AllThere}
+use Rattle.blocks.specs.Block.{Scattered, SitesWritten, FishWritten, site-more, fish-more, rows-rise}
+use Rattle.blocks.specs.Lists.{AllThere}
 use Rattle.panel.specs.Rows.{stateByte, flagByte}
 use Rattle.panel.specs.Whole.{RowsFound}
 

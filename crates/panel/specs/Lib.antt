@@ -1,6 +1,4 @@
--- The block of a panel: where its cells stand, what the single calls answer, and the bytes by rows.
-pub mod Block
-pub mod Lists
+-- What the single calls answer, and the bytes by rows.
 pub mod Rows
 pub mod Whole
 pub mod Singles

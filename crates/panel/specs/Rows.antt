@@ -15,8 +15,8 @@ use Rattle.alleles.specs.Reading.{Readable}
 use Rattle.alleles.specs.ByRows.{carried-allele, missing-row}
 use Rattle.alleles.specs.Call.{readOf, readAllele, reads}
 use Rattle.carrying.specs.Cells.{missingCell, carriedCell, stateCell, flagCell}
-use Rattle.panel.specs.Block.{length-cells, cell-there, get-map}
-use Rattle.panel.specs.Lists.{readings, AllThere}
+use Rattle.blocks.specs.Block.{length-cells, cell-there, get-map}
+use Rattle.blocks.specs.Lists.{readings, AllThere}
 
 -- the row of fish a of a list
 abbrev pub rowOf : Tables → List ℕ → ℕ → ℕ

@@ -9,7 +9,7 @@ use Rattle.meaning.specs.Rows.{Tables}
 use Rattle.meaning.specs.Answer.{Answer, Limits, Stated, done, absent, put}
 use Rattle.meaning.specs.Allele.{allele}
 use Rattle.meaning.specs.Panel.{PanelOutcome, singles, stateBytes, flagBytes, flag, panelAnswer, panelEnd, panel}
-use Rattle.panel.specs.Block.{row-below, get-map, length-cells, cell-there}
+use Rattle.blocks.specs.Block.{row-below, get-map, length-cells, cell-there}
 use Rattle.panel.specs.Whole.{end-done}
 
 -- cells of a result stand at its front

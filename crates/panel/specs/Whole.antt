@@ -18,8 +18,8 @@ use Rattle.meaning.specs.declared.Refusal.the-variants.{NoRoom}
 use Rattle.meaning.specs.declared.Panel.the-variants as answered
 use Rattle.alleles.specs.Reading.{Readable}
 use Rattle.alleles.specs.Call.{readAllele}
-use Rattle.panel.specs.Block.{FishWritten, all-written, row-below, length-cells}
-use Rattle.panel.specs.Lists.{readings, AllThere, FirstIs, all-there}
+use Rattle.blocks.specs.Block.{FishWritten, all-written, row-below, length-cells}
+use Rattle.blocks.specs.Lists.{readings, AllThere, FirstIs, all-there}
 use Rattle.panel.specs.Rows.{stateByte, flagByte, readings-long, state-there, flag-there}
 
 -- each mutation names a site that is there: part of what 9 finds

@@ -7,8 +7,8 @@ ghost use Rattle.meaning.specs.Rows.{ageTable, edgeTable, siteTable, mutationTa
 ghost use Rattle.order.specs.Ranks.{Ranked};
 ghost use Rattle.alleles.specs.Reading.{Readable};
 ghost use Rattle.carrying.specs.Work.{indexBy, Prepared};
-ghost use Rattle.panel.specs.Block.{FishWritten};
-ghost use Rattle.panel.specs.Lists.{AllThere};
+ghost use Rattle.blocks.specs.Block.{FishWritten};
+ghost use Rattle.blocks.specs.Lists.{AllThere};
 ghost use Rattle.panel.specs.Rows.{stateByte, flagByte};
 ghost use Rattle.panel.specs.Whole.{SitesNamed};
 use crate::portions;

@@ -11,11 +11,11 @@ ghost use Rattle.order.specs.Ranks.{Ranked};
 ghost use Rattle.alleles.specs.Reading.{Readable};
 ghost use Rattle.panel.specs.Whole.{SitesNamed, afterCheck};
 
-mod block; // cells of the blocks written, and whether all fit
 mod fill; // the bytes of all fish at all sites
-mod lists; // the first refusal that the lists bring
 mod portions; // so many fish at a time, told at each site
 
+use blocks::block;
+use blocks::lists;
 use meaning::Bytes;
 use meaning::Checked;
 use meaning::Panel;
@@ -71,10 +71,7 @@ fn panel_sound(
     match lists::first_refused(birth, by_birth, position.len(), sites, fish) {
         Checked::Refused(r) => Panel::Refused(r),
         Checked::Sound => {
-            if !block::has_room(fish.len(), sites.len(), states.len()) {
-                return Panel::Refused(Refusal::NoRoom(Bytes::NUMBER));
-            }
-            if !block::has_room(fish.len(), sites.len(), flags.len()) {
+            if !block::both_have_room(fish.len(), sites.len(), states.len(), flags.len()) {
                 return Panel::Refused(Refusal::NoRoom(Bytes::NUMBER));
             }
             fill::fill_blocks(

@@ -5,11 +5,11 @@ ghost use lib.ListN.{length};
 ghost use Rattle.meaning.specs.Rows.{ageTable, edgeTable, siteTable, mutationTable, tables};
 ghost use Rattle.order.specs.Ranks.{Ranked};
 ghost use Rattle.carrying.specs.Work.{indexBy, Prepared, workOf, Kept};
-ghost use Rattle.panel.specs.Block.{SitesWritten, FishWritten};
-ghost use Rattle.panel.specs.Lists.{AllThere};
+ghost use Rattle.blocks.specs.Block.{SitesWritten, FishWritten};
+ghost use Rattle.blocks.specs.Lists.{AllThere};
 ghost use Rattle.panel.specs.Rows.{stateByte, flagByte};
 ghost use Rattle.panel.specs.Whole.{RowsFound};
-use crate::block;
+use blocks::block;
 
 // Where the sites told so far have come to: the position last asked, and the stamp last given.
 pub struct Trail {

@@ -147,6 +147,7 @@ fn clean_and_list(
         &mut out_node,
         &mut out_derived,
         &mut out_map,
+        writing::within::BLOCK,
     );
     match answer {
         Tabled::Done {

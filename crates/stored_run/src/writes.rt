@@ -1,7 +1,7 @@
 // Writes by hand, and what is answered: the refusals of a write in their order, and just room.
-use crate::front32;
-use crate::refusal;
-use crate::refused;
+use crate::due::refusal;
+use crate::due::refused;
+use crate::reads::front32;
 use libc::STDOUT_FILENO;
 use stored::WriteAnswer;
 

@@ -15,8 +15,8 @@ Inv-loop a b out₀ n i₀ out i = (i ≤ length a + length b) × Front (a ++ b)
 abbrev μ-loop : tie.MeasureT-loop
 μ-loop a b out₀ n i₀ out i = length a + length b - i
 
-add-n : tie.Need-add-n Inv-loop μ-loop
-add-n c = search needs
+add-both : tie.Need-add-both Inv-loop μ-loop
+add-both c = search needs
 
 loop-holds : tie.Need-loop-holds Inv-loop μ-loop
 loop-holds c = (search needs, front-none _ _)
@@ -51,7 +51,7 @@ append-populations-spec =
     (tie.spec
     Inv-loop
     μ-loop
-    add-n
+    add-both
     loop-holds
     joined-population-requires
     mul-out

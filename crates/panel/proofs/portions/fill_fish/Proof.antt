@@ -6,7 +6,7 @@ use lib.ListN.{length}
 use borrow.Author.Needs.{needs}
 use Rattle.meaning.specs.Rows.{ageTable, edgeTable, siteTable, mutationTable, tables}
 use Rattle.carrying.specs.Work.{workOf}
-use Rattle.panel.specs.Block.{no-fish-yet}
+use Rattle.blocks.specs.Block.{no-fish-yet}
 use Rattle.panel.proofs.Taking.{Taken, taken-more, portion-room, fish-all}
 use Rattle.panel.proofs.portions.fill_fish.Statement.{statement}
 use Rattle.panel.proofs.portions.fill_fish.Tie as tie

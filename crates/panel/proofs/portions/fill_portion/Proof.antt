@@ -6,7 +6,7 @@ use lib.ListN.{length}
 use borrow.Author.Needs.{needs}
 use Rattle.meaning.specs.Rows.{ageTable, edgeTable, siteTable, mutationTable, tables}
 use Rattle.carrying.specs.Work.{workOf}
-use Rattle.panel.specs.Block.{no-site-yet}
+use Rattle.blocks.specs.Block.{no-site-yet}
 use Rattle.panel.proofs.Taking.{Telling, rows-inside, told-more, sites-all}
 use Rattle.panel.proofs.portions.fill_portion.Statement.{statement}
 use Rattle.panel.proofs.portions.fill_portion.Tie as tie

@@ -1,0 +1,3 @@
+-- A panel's two lists, and its block: where its cells stand.
+pub mod Block
+pub mod Lists

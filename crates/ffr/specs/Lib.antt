@@ -1,0 +1,2 @@
+-- What C is told of an answer.
+pub mod Told

@@ -1,0 +1,63 @@
+-- `stored_run::due::fold16` is safe and ends: the loop goes once over the column. Assumes nothing.
+use Prim.Native.Nat.{_≤_, _-_}
+use lib.ListN.{length}
+use native.Mathlib.Omega.{arith}
+use borrow.Author.Needs.{needs}
+use Rattle.stored_run.proofs.due.fold16.Statement.{statement}
+use Rattle.stored_run.proofs.due.fold16.Tie as tie
+use Rattle.stored_run.proofs.due.fold16.Reads as reads
+use Rattle.stored_run.proofs.due.fold16.Lts as lts
+use Rattle.stored_run.proofs.due.wide16.Reads as wide16-reads
+
+abbrev Inv-loop : tie.InvT-loop
+Inv-loop a before h₀ i₀ h i = i ≤ length a
+
+abbrev μ-loop : tie.MeasureT-loop
+μ-loop a before h₀ i₀ h i = length a - i
+
+loop-holds : tie.Need-loop-holds Inv-loop μ-loop
+loop-holds c = search needs
+
+mul-h : tie.Need-mul-h Inv-loop μ-loop
+mul-h c = search needs
+
+mul-wide16 : tie.Need-mul-wide16 Inv-loop μ-loop
+mul-wide16 c = search needs
+
+shared-slice-read-wide16 : tie.Need-shared-slice-read-wide16 Inv-loop μ-loop
+shared-slice-read-wide16 c = search needs
+
+wide16-requires : tie.Need-wide16-requires Inv-loop μ-loop
+wide16-requires c κs = search needs
+
+add-h : tie.Need-add-h Inv-loop μ-loop
+add-h c = search needs
+
+add-i : tie.Need-add-i Inv-loop μ-loop
+add-i c = search needs
+
+loop-less : tie.Need-loop-less Inv-loop μ-loop
+loop-less c = search needs
+
+loop-again : tie.Need-loop-again Inv-loop μ-loop
+loop-again c = search needs
+
+returns : tie.Need-returns Inv-loop μ-loop
+returns c = search needs
+
+pub fold16-spec : {M : Type 1} → statement M
+fold16-spec =
+    tie.close
+    (tie.spec
+    Inv-loop
+    μ-loop
+    loop-holds
+    mul-h
+    mul-wide16
+    shared-slice-read-wide16
+    wide16-requires
+    add-h
+    add-i
+    loop-less
+    loop-again
+    returns)
