@@ -1,4 +1,4 @@
--- What a sweep with columns of its own asks, and what the trace before it.
+-- What a sweep with columns of its own asks.
 use mathlib.Core.Path.{_≡_, sym, _∙_}
 use mathlib.Core.List.{List}
 use Prim.Native.Nat.{ℕ, _≤_}
@@ -35,15 +35,3 @@ asked s D room M even touched t marks par count sum low up begun above m a b c d
   numbered = omega (arith, s .numbered);
   even = even;
 }
-
--- the columns lent to the trace are long enough, for n nodes, e edges and ns samples
-pub record Roomy (n e ns : ℕ) (kept sample by-left by-right : List ℕ) (D : Store) (M : Moves) : Type 0 where
-  pub kept-long : ns ≤ length kept
-  pub sample-long : n ≤ length sample
-  pub lefts-long : e ≤ length by-left
-  pub rights-long : e ≤ length by-right
-  pub stood-long : n ≤ length (D .stood)
-  pub rights : length (D .right) ≡ length (D .left)
-  pub parents : length (D .parent) ≡ length (D .left)
-  pub children : length (D .child) ≡ length (D .left)
-  pub even : length (M .low) ≡ length (M .row)

@@ -3,7 +3,7 @@
 // columns.
 ghost use mathlib.Core.Path.{_≡_};
 ghost use mathlib.Core.List.{List};
-ghost use Prim.Native.Nat.{ℕ, _≤_};
+ghost use Prim.Native.Nat.{ℕ};
 ghost use lib.ListN.{length};
 ghost use Rattle.meaning.specs.Rows.{ageTable, nodeTable, edgeTable, siteTable, mutationTable, tables};
 ghost use Rattle.meaning.specs.Answer.{limits};
@@ -14,11 +14,13 @@ ghost use Rattle.cleaner.specs.Outcome.{afterCheck};
 ghost use Rattle.cleaner.specs.Tracing.{Passed};
 ghost use Rattle.cleaner.specs.Work.{Ready};
 ghost use Rattle.sweep.specs.Columns.{movesOf, storeOf};
+use crate::lists;
 use crate::rank;
 use crate::store;
 use crate::trace;
 use meaning::EdgeTable;
 use meaning::NodeTable;
+use meaning::Refusal;
 use meaning::Tabled;
 
 // Room for the samples' rows and then every row.
@@ -34,7 +36,8 @@ struct Sizes {
     mutations: usize,
 }
 
-// The first sweep, the rows kept and their places.
+// The samples' rows, marks on them, both orders of the edges, a sweep into lists that may be too short (it counts what it finds), the rows
+// kept and their places.
 fn work(
     len: u32,
     time: &[u32],
@@ -94,28 +97,28 @@ fn work(
           moves = movesOf (now (mrow .exit)) (now (mlow .exit)) (r .mutations);
         })) ⌝ }
 {
-    let found = trace::trace(
+    let n = time.len();
+    let e = left.len();
+    keeping::sample_rows(birth, by_birth, samples, kept, &mut sample[..n]);
+    rank::both_orders(len, left, right, child, &mut bl[..e], &mut br[..e]);
+    let found = trace::swept(
         len,
         time,
-        birth,
+        &sample[..n],
         left,
         right,
         parent,
         child,
+        &bl[..e],
+        &br[..e],
         position,
         site,
         node,
-        samples,
-        by_birth,
-        kept,
-        sample,
-        bl,
-        br,
         fl,
         fr,
         fp,
         fc,
-        stood,
+        &mut stood[..n],
         mrow,
         mlow,
     );
@@ -223,7 +226,42 @@ pub fn clean_sound(
         &mut mrow,
         &mut mlow,
     );
-    store::store(
+    let t = writing::within::no_room_within(
+        z.nodes,
+        z.edges,
+        position.len(),
+        z.mutations,
+        time.len(),
+        out_time.len(),
+        out_birth.len(),
+        out_population.len(),
+        out_left.len(),
+        out_right.len(),
+        out_parent.len(),
+        out_child.len(),
+        out_position.len(),
+        out_ancestral.len(),
+        out_site.len(),
+        out_node.len(),
+        out_derived.len(),
+        out_map.len(),
+        cells,
+    );
+    if t != 0 {
+        return Tabled::Refused(Refusal::NoRoom(t));
+    }
+    store::write_nodes(
+        time,
+        birth,
+        population,
+        &kept,
+        z.nodes,
+        out_time,
+        out_birth,
+        out_population,
+    );
+    store::write_sites(position, ancestral, out_position, out_ancestral);
+    lists::write_lists(
         len,
         time,
         birth,
@@ -254,19 +292,19 @@ pub fn clean_sound(
         z.nodes,
         z.edges,
         z.mutations,
-        out_time,
-        out_birth,
-        out_population,
         out_left,
         out_right,
         out_parent,
         out_child,
-        out_position,
-        out_ancestral,
         out_site,
         out_node,
         out_derived,
-        out_map,
-        cells,
-    )
+    );
+    writing::copy(&places, time.len(), out_map);
+    Tabled::Done {
+        nodes: z.nodes,
+        edges: z.edges,
+        sites: position.len(),
+        mutations: z.mutations,
+    }
 }
