@@ -55,10 +55,10 @@ fn take_case() -> Turn {
         return Turn::Over;
     }
     if kind == 0 {
-        io::write_all(STDOUT_FILENO, front8(&bytes, m));
+        io::write_all(STDOUT_FILENO, reads::front8(&bytes, m));
         return Turn::Group;
     }
-    let good = goes(kind, front8(&bytes, m), &head);
+    let good = goes(kind, reads::front8(&bytes, m), &head);
     if good { Turn::Same } else { Turn::Differs }
 }
 

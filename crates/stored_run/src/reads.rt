@@ -9,7 +9,7 @@ pub fn front32(a: &[u32], n: usize) -> &[u32] {
     if n <= a.len() { &a[..n] } else { a }
 }
 
-fn front8(a: &[u8], n: usize) -> &[u8] {
+pub fn front8(a: &[u8], n: usize) -> &[u8] {
     if n <= a.len() { &a[..n] } else { a }
 }
 
