@@ -89,7 +89,10 @@ fn held(
     samples: &[u32],
 ) -> bool {
     let a = due::fold16(population, due::fold32(birth, due::fold32(time, 0)));
-    let b = due::fold32(child, due::fold32(parent, due::fold32(right, due::fold32(left, a))));
+    let b = due::fold32(
+        child,
+        due::fold32(parent, due::fold32(right, due::fold32(left, a))),
+    );
     let c = due::fold8(ancestral, due::fold32(position, b));
     let d = due::fold8(derived, due::fold32(node, due::fold32(site, c)));
     due::agrees(head, due::answered(r), due::fold32(samples, d))
