@@ -4,6 +4,7 @@
 #   make ctest               the calls compared with a second implementation, from C++ and C; no caller of the first interface can be built
 #   make example             a breeding run by the calls, listed by target/bin/ffridwelan, the alleles of its last fish, the stocks
 #   make faults              that the tests see planted faults
+#   make attacks             wrong programs that the gate has no time for, each refused by the prover (all crates proved before)
 #   make bench               the calls beside C++ baselines, in time and instructions (bench/run)
 #   make sanitize valgrind   the tests under the sanitizers and under valgrind (on x86-64)
 #   make install PREFIX=     headers, archive, ffridwelan.pc
