@@ -1,5 +1,8 @@
 // Reading one allele: the marks and last states of a site's mutations by node rows, whether a row is missing there, and the state of the
 // first marked row at or above a row.
+
+#![tactic(auto)]
+
 ghost use Rattle.std.specs.Prelude.{◌≡◌, ◌<◌, length, replicate, set};
 ghost use Rattle.meaning.specs.Words.{at, rows};
 ghost use Rattle.meaning.specs.Rows.{age_table, node_table, edge_table, site_table, mutation_table, tables};

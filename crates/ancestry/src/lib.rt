@@ -1,4 +1,7 @@
 // The parent of a row at a position, and how far it holds: the one place of the code that finds a parent among edges.
+
+#![tactic(auto)]
+
 pub mod index; // the end of each row's edges among the edges by child
 pub mod lookup; // a row's parent at a position, and how far it holds
 

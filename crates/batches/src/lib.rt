@@ -1,5 +1,8 @@
 // The rules 20 to 26 of 01's join, each as a search for the lowest row that breaks it; the number of rows where none does.
 // What a broken row is stands in the crate meaning, specs/Join.antt.
+
+#![tactic(auto)]
+
 pub mod births; // rule 22, and the row and the time of a birth
 pub mod edges; // rules 23 and 24
 pub mod mutations; // rule 25

@@ -1,4 +1,7 @@
 // Laws in specs/: rows and births name the same forest. The code of this crate is one number.
+
+#![tactic(auto)]
+
 ghost use Rattle.std.specs.Prelude.{◌≡◌};
 
 // A row that is its own name.

@@ -1,4 +1,7 @@
 // Cleaning said by rows, as the code does it, and that this is what 01 says by births: laws in specs/; the code of this crate is one number.
+
+#![tactic(auto)]
+
 ghost use Rattle.std.specs.Prelude.{◌≡◌};
 
 // A row is one number.

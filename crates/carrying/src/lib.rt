@@ -1,5 +1,8 @@
 // What every fish of a list carries at one site. The site's mutations are marked once; what was found for one row is told to every row on
 // the way up, so that all fish of a site share one column; parents and children are looked up again only where they change.
+
+#![tactic(auto)]
+
 ghost use Rattle.std.specs.Prelude.{◌≡◌, ℕ, ◌<◌, ◌≤◌, length};
 ghost use Rattle.meaning.specs.Words.{at};
 ghost use Rattle.meaning.specs.Rows.{age_table, edge_table, site_table, mutation_table, tables};

@@ -1,5 +1,8 @@
 // Cases on standard input for the programs that run cleanings, joins and histories: numbers in few bytes, the columns that they name, and columns held to
 // those due. A case is four words (kind, its bytes, where its numbers start in them, how many numbers), then the bytes.
+
+#![tactic(auto)]
+
 ghost use Rattle.std.specs.Prelude.{◌<◌, ◌≤◌};
 
 use libc::STDIN_FILENO;

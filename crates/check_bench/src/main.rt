@@ -2,6 +2,9 @@
 // shapes: a line of nodes, and all edges of one child, each with all mutations on one site, and a line with a mutation at each site.
 //
 // Run it with an argument: target/bin/check_bench now. Without one it only says so, since times change from run to run.
+
+#![tactic(auto)]
+
 use check_tables::base::Sizes;
 use check_tables::block::{Column, States, Words};
 use check_tables::{base, block, call};

@@ -3,6 +3,9 @@
 // It prints a line for each group of cases, with how many came out right, and one for each case that did not.
 //
 // The input's first lines say how cases are written.
+
+#![tactic(auto)]
+
 mod cases;
 mod lines;
 mod panels;

@@ -1,4 +1,7 @@
 // The check of 01: numbers 1 to 12 in their order.
+
+#![tactic(auto)]
+
 ghost use Rattle.std.specs.Prelude.{◌≡◌, ◌≤◌, length, take};
 ghost use Rattle.meaning.specs.Rows.{age_table, node_table, edge_table, site_table, mutation_table, tables};
 ghost use Rattle.meaning.specs.Answer.{done, limits, checked_of};

@@ -1,5 +1,8 @@
 // Runs the cleaner on the cases of standard input, which cases.py made with a cleaner of its own,
 // and says for each group how many cases there were and how many differ.
+
+#![tactic(auto)]
+
 mod call;
 
 use libc::STDOUT_FILENO;

@@ -1,5 +1,8 @@
 // Cleaning: the tables are checked, the tree is swept along the chromosome, the rows kept and the edges are put in order,
 // and all is written once it is known to fit.
+
+#![tactic(auto)]
+
 ghost use Rattle.std.specs.Prelude.{◌≡◌, length};
 ghost use Rattle.meaning.specs.Rows.{node_table, edge_table, site_table, mutation_table, tables};
 ghost use Rattle.meaning.specs.Forest.{stands};

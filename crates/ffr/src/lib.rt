@@ -1,5 +1,8 @@
 // The calls from C: numbers and table columns, each column a pointer and a length, and the answer as one number.
 // Their names end in the number of the interface, so that a caller compiled for other columns finds no such function.
+
+#![tactic(auto)]
+
 pub mod alleles;
 pub mod clean;
 pub mod join;

@@ -1,4 +1,7 @@
 // Reads a stored file on standard input, and prints its cleaned tables.
+
+#![tactic(auto)]
+
 use libc::{STDIN_FILENO, STDOUT_FILENO};
 
 fn main() {

@@ -1,5 +1,8 @@
 // 01's stored form, record by record: where the rows of each kind stand, columns filled from records, and records laid into
 // lent bytes. What the bytes mean is in specs/.
+
+#![tactic(auto)]
+
 pub mod fill; // fill.rt: columns filled from the records
 pub mod lay; // lay.rt: records laid into lent bytes
 pub mod walk; // walk.rt: where the rows of each kind stand, or why not

@@ -1,5 +1,8 @@
 // Runs the histories of standard input, which cases.py made, each with every cleaning and with only the last, and says for each group
 // how many there were, in how many a call was refused, in how many the two ends differ, and how many end otherwise than is due.
+
+#![tactic(auto)]
+
 mod record;
 mod same;
 mod steps;

@@ -1,5 +1,8 @@
 // Runs the join on the cases of standard input, which cases.py made with a join of its own,
 // and says for each group how many cases there were and how many differ.
+
+#![tactic(auto)]
+
 mod answer;
 mod held;
 

@@ -1,4 +1,7 @@
 // Joining a batch: base and batch are checked, and all is written once it is known to fit.
+
+#![tactic(auto)]
+
 ghost use Rattle.std.specs.Prelude.{◌≡◌, length};
 ghost use Rattle.meaning.specs.Rows.{node_table, edge_table, site_table, mutation_table, tables};
 ghost use Rattle.meaning.specs.Answer.{limits};

@@ -1,4 +1,7 @@
 // The functions around the sweep of a cleaning: the samples' rows, the other rows kept in order, and each row's place among the rows kept.
+
+#![tactic(auto)]
+
 ghost use Rattle.std.specs.Prelude.{◌≡◌, true, ◌++◌, map, ℕ, ◌+◌, ◌<◌, ◌≤◌, length, take};
 ghost use Rattle.meaning.specs.Words.{at, mem, rows};
 ghost use Rattle.meaning.specs.Rows.{age_table};

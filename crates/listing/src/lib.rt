@@ -1,4 +1,7 @@
 // The bytes of a printed listing, made from the columns of tables 1 to 4 and the node map. The columns lent are the rows to print.
+
+#![tactic(auto)]
+
 mod put;
 mod rows;
 mod tables;

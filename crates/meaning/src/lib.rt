@@ -1,5 +1,8 @@
 // The limits of 01's tables, each once, with the table it belongs to, and the answers of the calls.
 // What they mean is in specs/.
+
+#![tactic(auto)]
+
 ghost use Rattle.std.specs.Prelude.{◌≡◌};
 ghost use Rattle.meaning.specs.Answer.{Limits, limits, longest, refusal_of, told_of};
 

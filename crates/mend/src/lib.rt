@@ -1,6 +1,9 @@
 // Live and standing rows, and the climbs that mend counts and sums after one parent changed: what one row of the tree's columns
 // decides. A row is live if it is a sample or has a live child; it stands if it is a sample or has two. Where a row lives and does
 // not stand, its sum is its only live child.
+
+#![tactic(auto)]
+
 mod low;
 pub mod turn;
 mod up;

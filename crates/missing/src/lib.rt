@@ -1,4 +1,7 @@
 // Whether a fish is missing at a site (M-103): it has no parent and no child at the site's position, and no mutation of its own there.
+
+#![tactic(auto)]
+
 ghost use Rattle.std.specs.Prelude.{◌≡◌, ◌<◌, length};
 ghost use Rattle.meaning.specs.Rows.{edge_table};
 ghost use Rattle.missing.specs.Alone.{under_row, child_row, missing_row};

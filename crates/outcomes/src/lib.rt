@@ -1,4 +1,7 @@
 // No two outcomes of a call meet its promise, as theorems in specs/; the code of this crate is one number.
+
+#![tactic(auto)]
+
 ghost use Rattle.std.specs.Prelude.{◌≡◌};
 
 // Cleaning, joining, reading and writing have an enum for their answer.

@@ -1,4 +1,7 @@
 // 01's rule 10 by rows, and 26 as 10: whether a mutation is above an earlier one of its site.
+
+#![tactic(auto)]
+
 ghost use Rattle.std.specs.Prelude.{◌≡◌, false, ℕ, ◌<◌, ◌≤◌, length};
 ghost use Rattle.meaning.specs.Words.{lowest};
 ghost use Rattle.meaning.specs.Rows.{edge_table, mutation_table, edges_of};

@@ -1,5 +1,8 @@
 // Alleles for a whole panel (M-100): the single calls of a list of sites and a list of fish, fish by fish, in two lent blocks of bytes. The
 // tables are checked once, each fish is found once, and all fish of a site share what is found there.
+
+#![tactic(auto)]
+
 ghost use Rattle.std.specs.Prelude.{◌≡◌, ℕ, ◌<◌, ◌≤◌, length};
 ghost use Rattle.meaning.specs.Words.{at};
 ghost use Rattle.meaning.specs.Rows.{age_table, node_table, edge_table, site_table, mutation_table, tables};

@@ -1,4 +1,7 @@
 // The mutations before the next change get their nearest standing row, and those that get one are listed.
+
+#![tactic(auto)]
+
 ghost use Rattle.std.specs.Prelude.{◌≡◌, ℕ, ◌<◌, length};
 ghost use Rattle.mend.specs.Kept.{Mended, LowOk};
 ghost use Rattle.placing.specs.Placing.{Taken, Placeable, Placed};

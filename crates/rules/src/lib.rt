@@ -1,5 +1,8 @@
 // The rules of 01's check, each as a search for the lowest row that breaks it; the number of rows where none does.
 // What a broken row is stands in the crate meaning, specs/Check.antt.
+
+#![tactic(auto)]
+
 pub mod columns; // rules 4, 8, 11 and 12: a column with itself, or with another
 pub mod edges; // rules 5 to 7
 pub mod shared; // rule 7, in n log n steps, and the edges by child

@@ -1,4 +1,7 @@
 // The runs of the sweep: open runs are cut at each change, and their fronts are the finished edges.
+
+#![tactic(auto)]
+
 ghost use Rattle.std.specs.Prelude.{◌≡◌, ℕ, ◌<◌, ◌≤◌, length, set};
 ghost use Rattle.meaning.specs.Words.{at};
 ghost use Rattle.runs.specs.Segments.{cut_at};

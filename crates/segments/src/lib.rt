@@ -1,4 +1,7 @@
 // 01: "ancestral segments: a left, a right and an output row". The output row at a position: searched on columns, and on a lent slice of segments.
+
+#![tactic(auto)]
+
 ghost use Rattle.std.specs.Prelude.{◌≡◌, min};
 ghost use Rattle.segments.specs.Search.{covers, row_at};
 ghost use Rattle.segments.specs.Columns.{segments_of};

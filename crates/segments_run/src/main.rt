@@ -1,5 +1,8 @@
 // The ancestral segments of two input rows of 01's listing: the output row at each position, and one past the end, by the search over a
 // lent slice and by the search on columns. Each line has the birth number, the position and both answers; `-` is none.
+
+#![tactic(auto)]
+
 ghost use Rattle.std.specs.Prelude.{◌≡◌};
 ghost use Rattle.segments.specs.Search.{row_at};
 

@@ -1,5 +1,8 @@
 // Cleaning a stored file and listing the result: what the program prints. What the bytes mean is in specs/.
 // The columns read and those cleaned stand on the stack, in 88,576 and 91,648 bytes; the cleaner has its own beside them.
+
+#![tactic(auto)]
+
 ghost use Rattle.std.specs.Prelude.{◌≡◌, ◌≤◌, length, take};
 ghost use Rattle.meaning.specs.Rows.{node_table, edge_table, site_table, mutation_table, tables};
 ghost use Rattle.meaning.specs.Answer.{refusal_of};

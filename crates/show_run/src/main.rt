@@ -1,5 +1,8 @@
 // Asks for what the listing program prints, on the stored files of standard input, and holds it to the text that stands after each file,
 // which cases.py made; says for each group how many files there were and how many differ.
+
+#![tactic(auto)]
+
 ghost use Rattle.std.specs.Prelude.{◌<◌};
 
 use libc::{STDIN_FILENO, STDOUT_FILENO};

@@ -1,4 +1,7 @@
 // Reading and writing 01's stored form. What the bytes mean is in crate `form`; answers and round trips are in specs/.
+
+#![tactic(auto)]
+
 ghost use Rattle.std.specs.Prelude.{◌≡◌};
 ghost use Rattle.meaning.specs.Rows.{node_table, edge_table, site_table, mutation_table, tables};
 ghost use Rattle.meaning.specs.Answer.{stored_limits};

@@ -1,6 +1,8 @@
 // Runs the reader and the writer on the cases of standard input, which cases.py made with a reader of its own,
 // and says for each group how many cases there were and how many differ.
 
+#![tactic(auto)]
+
 mod due;
 mod reads;
 mod writes;

@@ -1,5 +1,8 @@
 // The sweep along the chromosome: from change to change the tree is brought up to date, the runs are settled and the
 // mutations that have a nearest standing row are listed with it.
+
+#![tactic(auto)]
+
 ghost use Rattle.std.specs.Prelude.{ℕ, ◌<◌, length, List};
 ghost use Rattle.mend.specs.Kept.{Filled};
 ghost use Rattle.tree.specs.TreeAt.{Flags};

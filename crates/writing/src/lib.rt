@@ -1,4 +1,7 @@
 // Columns written to the front of lent ones, and the room that they find.
+
+#![tactic(auto)]
+
 ghost use Rattle.std.specs.Prelude.{◌≡◌, map, ℕ, ◌<◌, ◌≤◌, min, ltb, length, take};
 ghost use Rattle.meaning.specs.Words.{at, or};
 ghost use Rattle.meaning.specs.Answer.{put};
