@@ -94,7 +94,7 @@ hands G h rest = ap G (sym (after_sound rest)) ∙ h done rest
 -- a refusal is no 0
 pub refused : (r : Refusal) → accepted (refusal_of r) ≡ false
 unfolding accepted
-refused r = elim r [
+refused r = elim r as (λ k. accepted (refusal_of k) ≡ false) [
   | Ragged t ↦ refl
   | TooMany t ↦ refl
   | Length ↦ refl
