@@ -8,7 +8,9 @@
 use check_tables::base::Sizes;
 use check_tables::block::{Column, States, Words};
 use check_tables::{base, block, call};
-use libc::STDOUT_FILENO;
+use std::env::{Env, FillError};
+use std::io;
+use std::time::CpuClock;
 
 // How many calls are timed together.
 const CALLS: u32 = 10;
@@ -20,22 +22,15 @@ const ONE_CHILD: u32 = 1;
 
 const SPREAD: u32 = 2;
 
-// A number of the clock's, 0 where it has none to tell.
-fn at_least_zero(t: i64) -> u64 {
-    if t > 0 {
-        return t as u64;
-    }
-    0
+// The processor time used, in microseconds, 0 where they are too many to tell.
+fn ticks(rt: &impl CpuClock) -> io::Result<u64> {
+    let used = rt.process_cpu_time()?;
+    Ok(u64::try_from(used.as_micros()).unwrap_or(0))
 }
 
-// The processor time used, in microseconds.
-fn ticks() -> u64 {
-    at_least_zero(libc::clock())
-}
-
-fn write_number(text: &[u8], n: u64) {
-    io::write_all(STDOUT_FILENO, text);
-    io::print_decimal(STDOUT_FILENO, n);
+fn write_number(rt: &impl Print, text: &[u8], n: u64) -> io::Result<()> {
+    rt.write_all(text)?;
+    print!(rt; "{n}")
 }
 
 // The number that one call answers on a chromosome of this length: the allele of row 0 at the first site, up the whole line, or the
@@ -49,8 +44,8 @@ fn one_call(w: &mut [u32], s: &[u8], allele: bool, len: u32) -> usize {
 }
 
 // The microseconds of all calls, 0 where one was refused.
-fn timed(w: &mut [u32], s: &[u8], allele: bool) -> u64 {
-    let before = ticks();
+fn timed(rt: &impl CpuClock, w: &mut [u32], s: &[u8], allele: bool) -> io::Result<u64> {
+    let before = ticks(rt)?;
     let mut refused = 0;
     let mut i: u32 = 0;
     while i < CALLS {
@@ -58,9 +53,9 @@ fn timed(w: &mut [u32], s: &[u8], allele: bool) -> u64 {
         i += 1;
     }
     if refused != 0 {
-        return 0;
+        return Ok(0);
     }
-    std::num::wrapping_sub_u64(ticks(), before)
+    Ok(std::num::wrapping_sub_u64(ticks(rt)?, before))
 }
 
 // The sizes that go with so many nodes, in the proportion of the limits.
@@ -97,36 +92,46 @@ fn prepare(w: &mut [u32], s: &mut [u8], shape: u32, nodes: u32) {
 }
 
 // Prints the microseconds of one check and of one allele call on tables of so many nodes.
-fn measure(w: &mut [u32], s: &mut [u8], shape: u32, nodes: u32) {
+fn measure(
+    rt: &(impl Print + CpuClock),
+    w: &mut [u32],
+    s: &mut [u8],
+    shape: u32,
+    nodes: u32,
+) -> io::Result<()> {
     prepare(w, s, shape, nodes);
-    write_number(b" ", nodes as u64);
-    write_number(b" nodes: check ", timed(w, s, false) / 10);
-    write_number(b" us, allele ", timed(w, s, true) / 10);
-    io::write_all(STDOUT_FILENO, b" us\n");
+    write_number(rt, b" ", nodes as u64)?;
+    write_number(rt, b" nodes: check ", timed(rt, w, s, false)? / 10)?;
+    write_number(rt, b" us, allele ", timed(rt, w, s, true)? / 10)?;
+    rt.write_all(b" us\n")
 }
 
 // One shape at the three sizes.
-fn measure_shape(w: &mut [u32], s: &mut [u8], shape: u32) {
-    measure(w, s, shape, 256);
-    measure(w, s, shape, 512);
-    measure(w, s, shape, 1024);
+fn measure_shape(
+    rt: &(impl Print + CpuClock),
+    w: &mut [u32],
+    s: &mut [u8],
+    shape: u32,
+) -> io::Result<()> {
+    measure(rt, w, s, shape, 256)?;
+    measure(rt, w, s, shape, 512)?;
+    measure(rt, w, s, shape, 1024)
 }
 
-fn run() {
+fn run(rt: &(impl Print + CpuClock)) -> io::Result<()> {
     let mut w = [0u32; Words::CELLS];
     let mut s = [0u8; States::CELLS];
-    io::write_all(STDOUT_FILENO, b"a line of nodes\n");
-    measure_shape(&mut w, &mut s, LINE);
-    io::write_all(STDOUT_FILENO, b"all edges of one child\n");
-    measure_shape(&mut w, &mut s, ONE_CHILD);
-    io::write_all(STDOUT_FILENO, b"a line of nodes, a mutation at each site\n");
-    measure_shape(&mut w, &mut s, SPREAD);
+    rt.write_all(b"a line of nodes\n")?;
+    measure_shape(rt, &mut w, &mut s, LINE)?;
+    rt.write_all(b"all edges of one child\n")?;
+    measure_shape(rt, &mut w, &mut s, ONE_CHILD)?;
+    rt.write_all(b"a line of nodes, a mutation at each site\n")?;
+    measure_shape(rt, &mut w, &mut s, SPREAD)
 }
 
-fn main() {
-    if os::arg_count() < 2 {
-        io::write_all(STDOUT_FILENO, b"give an argument to measure\n");
-        return;
+fn main(rt: HostRuntime) -> io::Result<()> {
+    if let Err(FillError::NotPresent) = rt.arg(1, &mut []) {
+        return rt.write_all(b"give an argument to measure\n");
     }
-    run();
+    run(&rt)
 }

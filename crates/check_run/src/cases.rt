@@ -4,6 +4,7 @@ use crate::{panels, tally, wide};
 use check_tables::base::Sizes;
 use check_tables::block::Column;
 use check_tables::{base, block, call};
+use std::io;
 
 fn at(a: &[u32], i: u32) -> u32 {
     block::get(a, i as usize)
@@ -63,36 +64,36 @@ fn mend(a: &mut [u32], k: u32, w: &mut [u32], s: &mut [u8]) {
 }
 
 // C: the check, due to give this number and row.
-fn check(a: &[u32], w: &[u32], s: &[u8], t: Tally) -> Tally {
-    tally::judge(t, call::check(w, s), at(a, 1), at(a, 2), 0)
+fn check(rt: &impl Print, a: &[u32], w: &[u32], s: &[u8], t: Tally) -> io::Result<Tally> {
+    tally::judge(rt, t, call::check(w, s), at(a, 1), at(a, 2), 0)
 }
 
 // B: the check, and the allele call, which is due to give the same refusal.
-fn both(a: &[u32], w: &[u32], s: &[u8], t: Tally) -> Tally {
-    let after = check(a, w, s, t);
-    tally::judge(after, call::allele(w, s, 0, 0), at(a, 1), at(a, 2), 0)
+fn both(rt: &impl Print, a: &[u32], w: &[u32], s: &[u8], t: Tally) -> io::Result<Tally> {
+    let after = check(rt, a, w, s, t)?;
+    tally::judge(rt, after, call::allele(w, s, 0, 0), at(a, 1), at(a, 2), 0)
 }
 
 // A: the allele call at a site row for a birth number, due to give this number, row and state.
-fn allele(a: &[u32], w: &[u32], s: &[u8], t: Tally) -> Tally {
+fn allele(rt: &impl Print, a: &[u32], w: &[u32], s: &[u8], t: Tally) -> io::Result<Tally> {
     let got = call::allele(w, s, at(a, 1), at(a, 2));
-    tally::judge(t, got, at(a, 3), at(a, 4), at(a, 5))
+    tally::judge(rt, t, got, at(a, 3), at(a, 4), at(a, 5))
 }
 
-fn ask(head: u8, a: &[u32], w: &[u32], s: &[u8], t: Tally) -> Tally {
+fn ask(rt: &impl Print, head: u8, a: &[u32], w: &[u32], s: &[u8], t: Tally) -> io::Result<Tally> {
     if head == b'A' {
-        return allele(a, w, s, t);
+        return allele(rt, a, w, s, t);
     }
     if head == b'B' {
-        return both(a, w, s, t);
+        return both(rt, a, w, s, t);
     }
     if head == b'P' {
-        return panels::ask(a, w, s, t);
+        return panels::ask(rt, a, w, s, t);
     }
     if head == b'W' {
-        return wide::ask(a, w, s, t);
+        return wide::ask(rt, a, w, s, t);
     }
-    check(a, w, s, t)
+    check(rt, a, w, s, t)
 }
 
 // Where the edits of a line start.
@@ -107,33 +108,48 @@ fn edits(head: u8, a: &[u32]) -> u32 {
 }
 
 // Makes the edits, asks, and takes the edits back.
-fn ask_edited(head: u8, a: &mut [u32], w: &mut [u32], s: &mut [u8], t: Tally) -> Tally {
+fn ask_edited(
+    rt: &impl Print,
+    head: u8,
+    a: &mut [u32],
+    w: &mut [u32],
+    s: &mut [u8],
+    t: Tally,
+) -> io::Result<Tally> {
     let k = edits(head, a);
     edit(a, k, w, s);
-    let after = ask(head, a, w, s, t);
+    let after = ask(rt, head, a, w, s, t);
     mend(a, k, w, s);
     after
 }
 
 // Does what a line says that begins with this letter and has these n numbers; another letter says nothing.
-pub fn obey(head: u8, a: &mut [u32], n: u32, w: &mut [u32], s: &mut [u8], t: Tally) -> Tally {
+pub fn obey(
+    rt: &impl Print,
+    head: u8,
+    a: &mut [u32],
+    n: u32,
+    w: &mut [u32],
+    s: &mut [u8],
+    t: Tally,
+) -> io::Result<Tally> {
     if head == b'M' {
         make(a, w, s);
-        return t;
+        return Ok(t);
     }
     if head == b'R' {
         put_column(a, n, w, s);
-        return t;
+        return Ok(t);
     }
     if head == b'S' {
         block::put(w, s, at(a, 1), at(a, 2), at(a, 3));
-        return t;
+        return Ok(t);
     }
     if head == b'W' {
-        return ask(head, a, w, s, t);
+        return ask(rt, head, a, w, s, t);
     }
     if head == b'A' || head == b'B' || head == b'C' || head == b'P' {
-        return ask_edited(head, a, w, s, t);
+        return ask_edited(rt, head, a, w, s, t);
     }
-    t
+    Ok(t)
 }

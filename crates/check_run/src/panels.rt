@@ -6,6 +6,7 @@ use crate::tally;
 use crate::tally::Tally;
 use check_tables::call::Answer;
 use check_tables::{block, call};
+use std::io;
 
 // The bytes that stand in each block, of which the first are lent.
 const BYTES: usize = 64;
@@ -203,16 +204,23 @@ fn ask_marked(a: &[u32], w: &[u32], s: &[u8], states: &mut [u8], flags: &mut [u8
 }
 
 // Judges the answer, and then the blocks.
-fn judge(a: &[u32], got: Answer, states: &[u8], flags: &[u8], t: Tally) -> Tally {
+fn judge(
+    rt: &impl Print,
+    a: &[u32],
+    got: Answer,
+    states: &[u8],
+    flags: &[u8],
+    t: Tally,
+) -> io::Result<Tally> {
     let n = BYTES as u32;
-    let after = tally::judge(t, got, at(a, 5), at(a, 6), cells(a));
-    tally::judge_cells(after, first_wrong(a, states, flags, n), n)
+    let after = tally::judge(rt, t, got, at(a, 5), at(a, 6), cells(a))?;
+    tally::judge_cells(rt, after, first_wrong(a, states, flags, n), n)
 }
 
 // Asks the panel of a line.
-pub fn ask(a: &[u32], w: &[u32], s: &[u8], t: Tally) -> Tally {
+pub fn ask(rt: &impl Print, a: &[u32], w: &[u32], s: &[u8], t: Tally) -> io::Result<Tally> {
     let mut states = [0u8; BYTES];
     let mut flags = [0u8; BYTES];
     let got = ask_marked(a, w, s, &mut states, &mut flags);
-    judge(a, got, &states, &flags, t)
+    judge(rt, a, got, &states, &flags, t)
 }

@@ -1,6 +1,6 @@
 // How many cases of a group came out right, and what is printed.
 use check_tables::call::Answer;
-use libc::STDOUT_FILENO;
+use std::io;
 
 // The line of the input, where the group's title stands in it, and the counts.
 #[derive(Drop)]
@@ -55,59 +55,60 @@ fn counted(t: Tally, right: u32) -> Tally {
     }
 }
 
-fn write(text: &[u8]) {
-    io::write_all(STDOUT_FILENO, text);
+fn write(rt: &impl Print, text: &[u8]) -> io::Result<()> {
+    rt.write_all(text)
 }
 
 // Writes a part of the text.
-fn write_part(text: &[u8], from: usize, to: usize) {
+fn write_part(rt: &impl Print, text: &[u8], from: usize, to: usize) -> io::Result<()> {
     if to < from {
-        return;
+        return Ok(());
     }
     if text.len() < to {
-        return;
+        return Ok(());
     }
-    io::write_all(STDOUT_FILENO, &text[from..to]);
+    rt.write_all(&text[from..to])
 }
 
 // Writes a text and a number after it.
-fn write_number(text: &[u8], n: u64) {
-    io::write_all(STDOUT_FILENO, text);
-    io::print_decimal(STDOUT_FILENO, n);
+fn write_number(rt: &impl Print, text: &[u8], n: u64) -> io::Result<()> {
+    rt.write_all(text)?;
+    print!(rt; "{n}")
 }
 
 // Ends a group: its title, how many cases came out right, and how many there were.
-pub fn finish(text: &[u8], t: Tally) {
+pub fn finish(rt: &impl Print, text: &[u8], t: Tally) -> io::Result<()> {
     if t.cases == 0 {
-        return;
+        return Ok(());
     }
     let from = t.title;
     let to = t.title_end;
-    write_part(text, from, to);
-    write_number(b": ", wide(t.right));
-    write_number(b" of ", wide(t.cases));
-    write(b"\n");
+    write_part(rt, text, from, to)?;
+    write_number(rt, b": ", wide(t.right))?;
+    write_number(rt, b" of ", wide(t.cases))?;
+    write(rt, b"\n")
 }
 
 // Ends a group and begins the next one, whose title stands on this line.
-pub fn begin(text: &[u8], from: usize, to: usize, t: Tally) -> Tally {
-    finish(text, t);
-    Tally {
-        line: more(t.line),
+pub fn begin(rt: &impl Print, text: &[u8], from: usize, to: usize, t: Tally) -> io::Result<Tally> {
+    let line = more(t.line);
+    finish(rt, text, t)?;
+    Ok(Tally {
+        line,
         title: std::num::wrapping_add_usize(from, 2),
         title_end: to,
         right: 0,
         cases: 0,
-    }
+    })
 }
 
 // A case that came out otherwise: its line, and the number, row and state that came.
-fn wrong(line: u32, got: Answer) {
-    write_number(b"line ", wide(line));
-    write_number(b" gave ", long(got.number));
-    write_number(b" ", long(got.row));
-    write_number(b" ", wide(got.state));
-    write(b"\n");
+fn wrong(rt: &impl Print, line: u32, got: Answer) -> io::Result<()> {
+    write_number(rt, b"line ", wide(line))?;
+    write_number(rt, b" gave ", long(got.number))?;
+    write_number(rt, b" ", long(got.row))?;
+    write_number(rt, b" ", wide(got.state))?;
+    write(rt, b"\n")
 }
 
 fn same(got: Answer, number: u32, row: u32, state: u32) -> bool {
@@ -121,21 +122,28 @@ fn same(got: Answer, number: u32, row: u32, state: u32) -> bool {
 }
 
 // Counts a case, and says so where the answer is another than the one that is due.
-pub fn judge(t: Tally, got: Answer, number: u32, row: u32, state: u32) -> Tally {
+pub fn judge(
+    rt: &impl Print,
+    t: Tally,
+    got: Answer,
+    number: u32,
+    row: u32,
+    state: u32,
+) -> io::Result<Tally> {
     if same(got, number, row, state) {
-        return counted(t, more(t.right));
+        return Ok(counted(t, more(t.right)));
     }
-    wrong(t.line, got);
-    counted(t, t.right)
+    wrong(rt, t.line, got)?;
+    Ok(counted(t, t.right))
 }
 
 // Counts a case of n cells, and says which is the first that is not as it is due, where there is one.
-pub fn judge_cells(t: Tally, first: u32, n: u32) -> Tally {
+pub fn judge_cells(rt: &impl Print, t: Tally, first: u32, n: u32) -> io::Result<Tally> {
     if first == n {
-        return counted(t, more(t.right));
+        return Ok(counted(t, more(t.right)));
     }
-    write_number(b"line ", wide(t.line));
-    write_number(b" left another cell ", wide(first));
-    write(b"\n");
-    counted(t, t.right)
+    write_number(rt, b"line ", wide(t.line))?;
+    write_number(rt, b" left another cell ", wide(first))?;
+    write(rt, b"\n")?;
+    Ok(counted(t, t.right))
 }

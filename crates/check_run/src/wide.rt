@@ -4,6 +4,7 @@ use crate::{panels, tally};
 use check_tables::block::Column;
 use check_tables::call::Answer;
 use check_tables::{block, call};
+use std::io;
 
 // The fish and the cells of the panel, at two sites.
 const FISH: usize = 1100;
@@ -83,6 +84,7 @@ fn ask_marked(
 
 // Judges the answer, and then the blocks.
 fn judge(
+    rt: &impl Print,
     w: &[u32],
     s: &[u8],
     sites: &[u32],
@@ -91,24 +93,36 @@ fn judge(
     states: &[u8],
     flags: &[u8],
     t: Tally,
-) -> Tally {
+) -> io::Result<Tally> {
     let n = BYTES as u32;
-    let after = tally::judge(t, got, 0, 0, CELLS as u32);
-    tally::judge_cells(after, first_other(w, s, sites, fish, states, flags, n), n)
+    let after = tally::judge(rt, t, got, 0, 0, CELLS as u32)?;
+    tally::judge_cells(
+        rt,
+        after,
+        first_other(w, s, sites, fish, states, flags, n),
+        n,
+    )
 }
 
 // Asks the panel of the lists.
-fn ask_lists(w: &[u32], s: &[u8], sites: &[u32], fish: &[u32], t: Tally) -> Tally {
+fn ask_lists(
+    rt: &impl Print,
+    w: &[u32],
+    s: &[u8],
+    sites: &[u32],
+    fish: &[u32],
+    t: Tally,
+) -> io::Result<Tally> {
     let mut states = [0u8; BYTES];
     let mut flags = [0u8; BYTES];
     let got = ask_marked(w, s, sites, fish, &mut states, &mut flags);
-    judge(w, s, sites, fish, got, &states, &flags, t)
+    judge(rt, w, s, sites, fish, got, &states, &flags, t)
 }
 
 // Asks the panel of a line, which gives the last row of the fish and two sites.
-pub fn ask(a: &[u32], w: &[u32], s: &[u8], t: Tally) -> Tally {
+pub fn ask(rt: &impl Print, a: &[u32], w: &[u32], s: &[u8], t: Tally) -> io::Result<Tally> {
     let mut sites = [0u32; 2];
     let mut fish = [0u32; FISH];
     put_lists(a, w, s, &mut sites, &mut fish);
-    ask_lists(w, s, &sites, &fish, t)
+    ask_lists(rt, w, s, &sites, &fish, t)
 }

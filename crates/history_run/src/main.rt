@@ -8,7 +8,8 @@ mod same;
 mod steps;
 mod twice;
 
-use libc::STDOUT_FILENO;
+use std::io;
+use std::io::Read;
 use twice::End;
 
 // The most bytes of a history, and the most numbers.
@@ -32,20 +33,21 @@ fn judge(bytes: &[u8], from: usize, n: usize) -> End {
 }
 
 // One history; kind 0 ends a group and holds its name.
-fn take_case() -> Turn {
-    let h = cases::next_case();
+fn take_case(rt: &impl Print, input: &mut impl Read) -> io::Result<Turn> {
+    let h = cases::next_case(input)?;
     if !h.there {
-        return Turn::Over;
+        return Ok(Turn::Over);
     }
     let mut bytes = [0u8; BYTES];
-    if !cases::fetch(&mut bytes, h.bytes) {
-        return Turn::Over;
+    if !cases::fetch(input, &mut bytes, h.bytes)? {
+        return Ok(Turn::Over);
     }
     if h.kind == 0 {
-        io::write_all(STDOUT_FILENO, cases::front(&bytes, h.bytes));
-        return Turn::Group;
+        rt.write_all(cases::front(&bytes, h.bytes))?;
+        return Ok(Turn::Group);
     }
-    Turn::Ran(judge(cases::front(&bytes, h.bytes), h.from, h.count))
+    let end = judge(cases::front(&bytes, h.bytes), h.from, h.count);
+    Ok(Turn::Ran(end))
 }
 
 // How many histories came to each end.
@@ -104,29 +106,29 @@ fn counted(t: Tally, e: End) -> Tally {
     }
 }
 
-fn summary(t: Tally) {
-    io::write_all(STDOUT_FILENO, b": ");
-    io::print_decimal(STDOUT_FILENO, t.all);
-    io::write_all(STDOUT_FILENO, b" histories, ");
-    io::print_decimal(STDOUT_FILENO, t.refused);
-    io::write_all(STDOUT_FILENO, b" refused, ");
-    io::print_decimal(STDOUT_FILENO, t.apart);
-    io::write_all(STDOUT_FILENO, b" with two ends, ");
-    io::print_decimal(STDOUT_FILENO, t.other);
-    io::write_all(STDOUT_FILENO, b" with one end that is not the one due\n");
+fn summary(rt: &impl Print, t: Tally) -> io::Result<()> {
+    let Tally {
+        all,
+        refused,
+        apart,
+        other,
+    } = t;
+    print!(rt; ": {all} histories, {refused} refused, ")?;
+    println!(rt; "{apart} with two ends, {other} with one end that is not the one due")
 }
 
-fn main() {
+fn main(rt: HostRuntime) -> io::Result<()> {
+    let mut input = rt.stdin();
     let mut turns: u64 = 100000;
     let mut t = nothing();
     while 0 < turns {
         turns -= 1;
-        match take_case() {
+        match take_case(&rt, &mut input)? {
             Turn::Over => {
-                return;
+                return Ok(());
             }
             Turn::Group => {
-                summary(t);
+                summary(&rt, t)?;
                 t = nothing();
             }
             Turn::Ran(e) => {
@@ -134,4 +136,5 @@ fn main() {
             }
         }
     }
+    Ok(())
 }

@@ -6,7 +6,8 @@
 mod answer;
 mod held;
 
-use libc::STDOUT_FILENO;
+use std::io;
+use std::io::Read;
 
 // The most bytes of a case, and the most numbers.
 const BYTES: usize = 262144;
@@ -30,35 +31,32 @@ fn judge(bytes: &[u8], from: usize, n: usize) -> bool {
 }
 
 // One case; kind 0 ends a group and holds its name.
-fn take_case() -> Turn {
-    let h = cases::next_case();
+fn take_case(rt: &impl Print, input: &mut impl Read) -> io::Result<Turn> {
+    let h = cases::next_case(input)?;
     if !h.there {
-        return Turn::Over;
+        return Ok(Turn::Over);
     }
     let mut bytes = [0u8; BYTES];
-    if !cases::fetch(&mut bytes, h.bytes) {
-        return Turn::Over;
+    if !cases::fetch(input, &mut bytes, h.bytes)? {
+        return Ok(Turn::Over);
     }
     if h.kind == 0 {
-        io::write_all(STDOUT_FILENO, cases::front(&bytes, h.bytes));
-        return Turn::Group;
+        rt.write_all(cases::front(&bytes, h.bytes))?;
+        return Ok(Turn::Group);
     }
     if judge(cases::front(&bytes, h.bytes), h.from, h.count) {
-        Turn::Same
+        Ok(Turn::Same)
     } else {
-        Turn::Differs
+        Ok(Turn::Differs)
     }
 }
 
-fn summary(cases: u64, differ: u64) {
-    io::write_all(STDOUT_FILENO, b": ");
-    io::print_decimal(STDOUT_FILENO, cases);
-    io::write_all(STDOUT_FILENO, b" cases, ");
-    io::print_decimal(STDOUT_FILENO, differ);
-    io::write_all(STDOUT_FILENO, b" differ\n");
+fn summary(rt: &impl Print, cases: u64, differ: u64) -> io::Result<()> {
+    println!(rt; ": {cases} cases, {differ} differ")
 }
 
-fn main() {
+fn main(rt: HostRuntime) -> io::Result<()> {
+    let mut input = rt.stdin();
     let mut turns: u64 = 100000;
     let mut cases: u64 = 0;
     let mut differ: u64 = 0;
@@ -66,11 +64,10 @@ fn main() {
     let mut all_differ: u64 = 0;
     while 0 < turns {
         turns -= 1;
-        match take_case() {
+        match take_case(&rt, &mut input)? {
             Turn::Over => {
-                io::write_all(STDOUT_FILENO, b"in all");
-                summary(all, all_differ);
-                return;
+                rt.write_all(b"in all")?;
+                return summary(&rt, all, all_differ);
             }
             Turn::Same => {
                 cases += 1;
@@ -83,10 +80,11 @@ fn main() {
                 all_differ += 1;
             }
             Turn::Group => {
-                summary(cases, differ);
+                summary(&rt, cases, differ)?;
                 cases = 0;
                 differ = 0;
             }
         }
     }
+    Ok(())
 }

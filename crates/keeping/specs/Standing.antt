@@ -8,7 +8,7 @@ use Rattle.meaning.specs.Rows.{Tables, Edge, age_table}
 use Rattle.meaning.specs.Forest.{is}
 use Rattle.meaning.specs.Answer.{Limits}
 use Rattle.laws.specs.Counting.{get_rows}
-use Rattle.laws.specs.Facts.{Any, now, later, All, also, Cov}
+use Rattle.laws.specs.Facts.{Any, now, later, All, also, Cov, done}
 use Rattle.encoding.specs.Runs.{Longest}
 use Rattle.encoding.specs.Edges.{is_of}
 use Rattle.order.specs.Counts.{bit}
@@ -28,6 +28,7 @@ Mark F v k = ((k ≡ 1) × Parent F v) ⊎ ((k ≡ 0) × (Parent F v → ⊥))
 
 -- a member that passes one test passes another that all pass
 any_also : {A : Type 0} {P Q : A → Type 0} {l : List A} → All P l → Any Q l → (a : A) × P a × Q a
+any_also {A = A} {P = P} {Q = Q} done x3 = elim x3 [ ]
 any_also (also p x) (now q) = (_, p, q)
 any_also (also p x) (later y) = any_also x y
 

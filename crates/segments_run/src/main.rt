@@ -6,9 +6,9 @@
 ghost use Rattle.std.specs.Prelude.{◌≡◌};
 ghost use Rattle.segments.specs.Search.{row_at};
 
-use libc::STDOUT_FILENO;
 use meaning::MapTable;
 use runs::Segment;
+use std::io;
 
 // Lends the segments as a slice.
 fn by_slice(a: [Segment; 3], x: u32) -> u32
@@ -31,35 +31,32 @@ fn by_columns(a: [Segment; 3], x: u32) -> u32
 }
 
 // Prints an output row after a space.
-fn print_row(row: u32) {
-    io::write_all(STDOUT_FILENO, b" ");
+fn print_row(rt: &impl Print, row: u32) -> io::Result<()> {
     if row == MapTable::NONE {
-        io::write_all(STDOUT_FILENO, b"-");
-        return;
+        return print!(rt; " -");
     }
-    io::print_decimal(STDOUT_FILENO, row as u64);
+    print!(rt; " {row}")
 }
 
 // Prints the line of one position.
-fn print_line(birth: u64, x: u32, a: [Segment; 3]) {
-    io::print_decimal(STDOUT_FILENO, birth);
-    io::write_all(STDOUT_FILENO, b" ");
-    io::print_decimal(STDOUT_FILENO, x as u64);
-    print_row(by_slice(a, x));
-    print_row(by_columns(a, x));
-    io::write_all(STDOUT_FILENO, b"\n");
+fn print_line(rt: &impl Print, birth: u64, x: u32, a: [Segment; 3]) -> io::Result<()> {
+    print!(rt; "{birth} {x}")?;
+    print_row(rt, by_slice(a, x))?;
+    print_row(rt, by_columns(a, x))?;
+    rt.write_all(b"\n")
 }
 
 // Prints the lines of one input row.
-fn print_lines(birth: u64, a: [Segment; 3]) {
+fn print_lines(rt: &impl Print, birth: u64, a: [Segment; 3]) -> io::Result<()> {
     let mut x: u32 = 0;
     while x <= 10 {
-        print_line(birth, x, a);
+        print_line(rt, birth, x, a)?;
         x += 1;
     }
+    Ok(())
 }
 
-fn main() {
+fn main(rt: HostRuntime) -> io::Result<()> {
     let front = Segment {
         left: 0,
         right: 4,
@@ -75,7 +72,7 @@ fn main() {
         right: 10,
         row: 0,
     };
-    print_lines(401, [front, middle, rest]);
+    print_lines(&rt, 401, [front, middle, rest])?;
     let first = Segment {
         left: 0,
         right: 4,
@@ -86,5 +83,5 @@ fn main() {
         right: 10,
         row: 3,
     };
-    print_lines(301, [first, middle, last]);
+    print_lines(&rt, 301, [first, middle, last])
 }

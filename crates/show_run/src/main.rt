@@ -5,7 +5,8 @@
 
 ghost use Rattle.std.specs.Prelude.{◌<◌};
 
-use libc::{STDIN_FILENO, STDOUT_FILENO};
+use std::io;
+use std::io::{ErrorKind, Read};
 
 // Room for a file of one byte more than the longest, and for every text.
 const FILE: usize = 65537;
@@ -44,12 +45,15 @@ fn front(s: &[u8], n: usize) -> &[u8] {
 }
 
 // Fills the front of a buffer with the next bytes of the input; whether there were so many.
-fn fetch(buffer: &mut [u8], n: usize) -> bool {
+fn fetch(input: &mut impl Read, buffer: &mut [u8], n: usize) -> io::Result<bool> {
     if n <= buffer.len() {
-        let came = io::read_full(STDIN_FILENO, &mut buffer[..n]);
-        came == n
+        match input.read_exact(&mut buffer[..n]) {
+            Ok(()) => Ok(true),
+            Err(e) if e.kind() == ErrorKind::UnexpectedEof => Ok(false),
+            Err(e) => Err(e),
+        }
     } else {
-        false
+        Ok(false)
     }
 }
 
@@ -72,52 +76,48 @@ fn prints(file: &[u8], text: &[u8]) -> bool {
     if !untouched(&out, m) {
         return false;
     }
-    check::same(front(&out, m), text)
+    front(&out, m) == text
 }
 
 // The text due to a file of n bytes has m bytes and comes next.
-fn judge(file: &[u8], m: usize) -> Turn {
+fn judge(input: &mut impl Read, file: &[u8], m: usize) -> io::Result<Turn> {
     let mut text = [0u8; TEXT];
-    if !fetch(&mut text, m) {
-        return Turn::Over;
+    if !fetch(input, &mut text, m)? {
+        return Ok(Turn::Over);
     }
     if prints(file, front(&text, m)) {
-        Turn::Same
+        Ok(Turn::Same)
     } else {
-        Turn::Differs
+        Ok(Turn::Differs)
     }
 }
 
 // One case: its kind (0 ends a group and holds its name), the lengths of file and text, the file and the text.
-fn take_case() -> Turn {
+fn take_case(rt: &impl Print, input: &mut impl Read) -> io::Result<Turn> {
     let mut head = [0u8; 12];
-    let got = io::read_full(STDIN_FILENO, &mut head);
-    if got < 12 {
-        return Turn::Over;
+    if !fetch(input, &mut head, 12)? {
+        return Ok(Turn::Over);
     }
     let kind = word(&head, 0);
     let n = word(&head, 4) as usize;
     let m = word(&head, 8) as usize;
     let mut file = [0u8; FILE];
-    if !fetch(&mut file, n) {
-        return Turn::Over;
+    if !fetch(input, &mut file, n)? {
+        return Ok(Turn::Over);
     }
     if kind == 0 {
-        io::write_all(STDOUT_FILENO, front(&file, n));
-        return Turn::Group;
+        rt.write_all(front(&file, n))?;
+        return Ok(Turn::Group);
     }
-    judge(front(&file, n), m)
+    judge(input, front(&file, n), m)
 }
 
-fn summary(cases: u64, differ: u64) {
-    io::write_all(STDOUT_FILENO, b": ");
-    io::print_decimal(STDOUT_FILENO, cases);
-    io::write_all(STDOUT_FILENO, b" cases, ");
-    io::print_decimal(STDOUT_FILENO, differ);
-    io::write_all(STDOUT_FILENO, b" differ\n");
+fn summary(rt: &impl Print, cases: u64, differ: u64) -> io::Result<()> {
+    println!(rt; ": {cases} cases, {differ} differ")
 }
 
-fn main() {
+fn main(rt: HostRuntime) -> io::Result<()> {
+    let mut input = rt.stdin();
     let mut turns: u64 = 100000;
     let mut cases: u64 = 0;
     let mut differ: u64 = 0;
@@ -125,11 +125,10 @@ fn main() {
     let mut all_differ: u64 = 0;
     while 0 < turns {
         turns -= 1;
-        match take_case() {
+        match take_case(&rt, &mut input)? {
             Turn::Over => {
-                io::write_all(STDOUT_FILENO, b"in all");
-                summary(all, all_differ);
-                return;
+                rt.write_all(b"in all")?;
+                return summary(&rt, all, all_differ);
             }
             Turn::Same => {
                 cases += 1;
@@ -142,10 +141,11 @@ fn main() {
                 all_differ += 1;
             }
             Turn::Group => {
-                summary(cases, differ);
+                summary(&rt, cases, differ)?;
                 cases = 0;
                 differ = 0;
             }
         }
     }
+    Ok(())
 }

@@ -7,7 +7,8 @@ mod due;
 mod reads;
 mod writes;
 
-use libc::{STDIN_FILENO, STDOUT_FILENO};
+use std::io;
+use std::io::{ErrorKind, Read};
 
 // What a case came to.
 #[derive(Drop)]
@@ -19,12 +20,15 @@ enum Turn {
 }
 
 // Fills the front of a buffer with the next bytes of the input; whether there were so many.
-fn fetch(buffer: &mut [u8], n: usize) -> bool {
+fn fetch(input: &mut impl Read, buffer: &mut [u8], n: usize) -> io::Result<bool> {
     if n <= buffer.len() {
-        let came = io::read_full(STDIN_FILENO, &mut buffer[..n]);
-        came == n
+        match input.read_exact(&mut buffer[..n]) {
+            Ok(()) => Ok(true),
+            Err(e) if e.kind() == ErrorKind::UnexpectedEof => Ok(false),
+            Err(e) => Err(e),
+        }
     } else {
-        false
+        Ok(false)
     }
 }
 
@@ -40,46 +44,45 @@ fn goes(kind: u64, bytes: &[u8], head: &[u8; 68]) -> bool {
 }
 
 // One case: its head, its bytes, and whether reading them goes as the head says.
-fn take_case() -> Turn {
+fn take_case(rt: &impl Print, input: &mut impl Read) -> io::Result<Turn> {
     let mut head = [0u8; 68];
-    let got = io::read_full(STDIN_FILENO, &mut head);
-    if got < 68 {
-        return Turn::Over;
+    if !fetch(input, &mut head, 68)? {
+        return Ok(Turn::Over);
     }
     let kind = due::word(&head, 0);
     let n = due::word(&head, 4);
     if 81919 < n {
-        return Turn::Over;
+        return Ok(Turn::Over);
     }
     let m = n as usize;
     let mut bytes = [0u8; 81920];
-    if !fetch(&mut bytes, m) {
-        return Turn::Over;
+    if !fetch(input, &mut bytes, m)? {
+        return Ok(Turn::Over);
     }
     if kind == 0 {
-        io::write_all(STDOUT_FILENO, reads::front8(&bytes, m));
-        return Turn::Group;
+        rt.write_all(reads::front8(&bytes, m))?;
+        return Ok(Turn::Group);
     }
     let good = goes(kind, reads::front8(&bytes, m), &head);
-    if good { Turn::Same } else { Turn::Differs }
+    if good {
+        Ok(Turn::Same)
+    } else {
+        Ok(Turn::Differs)
+    }
 }
 
-fn summary(cases: u64, differ: u64) {
-    io::write_all(STDOUT_FILENO, b": ");
-    io::print_decimal(STDOUT_FILENO, cases);
-    io::write_all(STDOUT_FILENO, b" cases, ");
-    io::print_decimal(STDOUT_FILENO, differ);
-    io::write_all(STDOUT_FILENO, b" differ\n");
+fn summary(rt: &impl Print, cases: u64, differ: u64) -> io::Result<()> {
+    println!(rt; ": {cases} cases, {differ} differ")
 }
 
-fn groups() {
+fn groups(rt: &impl Print, input: &mut impl Read) -> io::Result<()> {
     let mut turns: u64 = 100000;
     let mut cases: u64 = 0;
     let mut differ: u64 = 0;
     while 0 < turns {
         turns -= 1;
-        match take_case() {
-            Turn::Over => return,
+        match take_case(rt, input)? {
+            Turn::Over => return Ok(()),
             Turn::Same => {
                 cases += 1;
             }
@@ -88,15 +91,16 @@ fn groups() {
                 differ += 1;
             }
             Turn::Group => {
-                summary(cases, differ);
+                summary(rt, cases, differ)?;
                 cases = 0;
                 differ = 0;
             }
         }
     }
+    Ok(())
 }
 
-fn main() {
-    groups();
-    writes::by_hand();
+fn main(rt: HostRuntime) -> io::Result<()> {
+    groups(&rt, &mut rt.stdin())?;
+    writes::by_hand(&rt)
 }

@@ -63,7 +63,7 @@ fn back(
             if 81919 < count {
                 return false;
             }
-            out[count] == 9 && check::same(front8(&out, count), bytes)
+            out[count] == 9 && front8(&out, count) == bytes
         }
     }
 }

@@ -1,11 +1,12 @@
 // Writes by hand, and what is answered: the refusals of a write in their order, and just room.
 use crate::due::{refusal, refused};
 use crate::reads::front32;
-use libc::STDOUT_FILENO;
+use std::io;
 use stored::WriteAnswer;
 
 // Writes one edge and one mutation, some times, births, populations and samples, and says what is answered.
 fn wrote(
+    rt: &impl Print,
     what: &[u8],
     parent: u32,
     node: u32,
@@ -14,7 +15,7 @@ fn wrote(
     population: &[u16],
     samples: &[u32],
     out: &mut [u8],
-) {
+) -> io::Result<()> {
     let t = [0u32; 1024];
     let one = [1u32; 1];
     let p = [parent];
@@ -41,27 +42,34 @@ fn wrote(
         WriteAnswer::Done(_) => refusal(0, 0),
         WriteAnswer::Refused(x) => refused(x),
     };
-    io::write_all(STDOUT_FILENO, what);
-    io::print_decimal(STDOUT_FILENO, s.number);
-    io::write_all(STDOUT_FILENO, b" ");
-    io::print_decimal(STDOUT_FILENO, s.row as u64);
-    io::write_all(STDOUT_FILENO, b"\n");
+    let number = s.number;
+    let row = s.row;
+    rt.write_all(what)?;
+    println!(rt; "{number} {row}")
 }
 
 // The same with as many times and births as populations, and one sample.
-fn wrote_even(what: &[u8], parent: u32, node: u32, population: &[u16], out: &mut [u8]) {
+fn wrote_even(
+    rt: &impl Print,
+    what: &[u8],
+    parent: u32,
+    node: u32,
+    population: &[u16],
+    out: &mut [u8],
+) -> io::Result<()> {
     let few = [5u32; 1];
     let n = population.len();
-    wrote(what, parent, node, n, n, population, &few, out);
+    wrote(rt, what, parent, node, n, n, population, &few, out)
 }
 
 // Columns that differ in length, and a row over the limit: each with all that is refused later.
-fn shapes() {
+fn shapes(rt: &impl Print) -> io::Result<()> {
     let few = [5u32; 1];
     let over = [5u32; 257];
     let one = [9u16; 1];
     let mut out = [0u8; 51];
     wrote(
+        rt,
         b"write, columns differ: ",
         65536,
         65536,
@@ -70,8 +78,9 @@ fn shapes() {
         &one,
         &over,
         &mut out,
-    );
+    )?;
     wrote(
+        rt,
         b"write, a birth too many: ",
         65536,
         65536,
@@ -80,8 +89,9 @@ fn shapes() {
         &one,
         &over,
         &mut out,
-    );
+    )?;
     wrote(
+        rt,
         b"write, a population too few: ",
         0,
         0,
@@ -90,8 +100,9 @@ fn shapes() {
         &one,
         &few,
         &mut out,
-    );
+    )?;
     wrote(
+        rt,
         b"write, a population too many: ",
         65536,
         65536,
@@ -100,8 +111,9 @@ fn shapes() {
         &one,
         &over,
         &mut out,
-    );
+    )?;
     wrote(
+        rt,
         b"write, a sample too many: ",
         65536,
         65536,
@@ -110,37 +122,52 @@ fn shapes() {
         &one,
         &over,
         &mut out,
-    );
+    )
 }
 
 // Wide rows and populations, each with all that is refused later.
-fn rows() {
+fn rows(rt: &impl Print) -> io::Result<()> {
     let one = [9u16; 1];
     let two = [0u16, 0, 65535, 9];
     let mut most = [0u16; 1024];
     most[1023] = 1;
     let mut out = [0u8; 51];
-    wrote_even(b"write, a wide edge: ", 65536, 65536, &one, &mut out);
-    wrote_even(b"write, a wide mutation: ", 65535, 65536, &one, &mut out);
-    wrote_even(b"write, a population: ", 65535, 65535, &one, &mut out);
-    wrote_even(b"write, two populations: ", 65535, 65535, &two, &mut out);
+    wrote_even(rt, b"write, a wide edge: ", 65536, 65536, &one, &mut out)?;
     wrote_even(
+        rt,
+        b"write, a wide mutation: ",
+        65535,
+        65536,
+        &one,
+        &mut out,
+    )?;
+    wrote_even(rt, b"write, a population: ", 65535, 65535, &one, &mut out)?;
+    wrote_even(
+        rt,
+        b"write, two populations: ",
+        65535,
+        65535,
+        &two,
+        &mut out,
+    )?;
+    wrote_even(
+        rt,
         b"write, the last population: ",
         65535,
         65535,
         &most,
         &mut out,
-    );
+    )
 }
 
-pub fn by_hand() {
+pub fn by_hand(rt: &impl Print) -> io::Result<()> {
     let none = [0u16; 1];
     let mut large = [0u8; 64];
     let mut just = [0u8; 52];
     let mut short = [0u8; 51];
-    wrote_even(b"write, all well: ", 65535, 65535, &none, &mut large);
-    shapes();
-    rows();
-    wrote_even(b"write, just room: ", 0, 0, &none, &mut just);
-    wrote_even(b"write, a byte short: ", 0, 0, &none, &mut short);
+    wrote_even(rt, b"write, all well: ", 65535, 65535, &none, &mut large)?;
+    shapes(rt)?;
+    rows(rt)?;
+    wrote_even(rt, b"write, just room: ", 0, 0, &none, &mut just)?;
+    wrote_even(rt, b"write, a byte short: ", 0, 0, &none, &mut short)
 }

@@ -31,12 +31,12 @@ use Rattle.tree.proofs.Placing.{placed, ahead_between}
 
 -- ---- what is over a row is the up of the definitions
 
-over_some : {P : Par} {K : ℕ → Bool} {v w : ℕ} → Over P K (some w) v → Up P K w v
+over_some : {P : Par} {K : ℕ → Bool} {w v : ℕ} → Over P K (some w) v → Up P K w v
 over_some (root e z) = absurd (none_some z refl)
 over_some {P} {K} {w = w} (hit {p = p} e k z) = let y : w ≡ p = some_inj refl z in (p, e, subst (λ (a : ℕ). Near P K a p) (sym y) (found k))
 over_some (on {p = p} e k r) = let t : _ = over_some r in (p, e, contract.on k t.1 t.2)
 
-near_over : {P : Par} {K : ℕ → Bool} {v w p : ℕ} → P v ≡ some p → Near P K w p → Over P K (some w) v
+near_over : {P : Par} {K : ℕ → Bool} {w v p : ℕ} → P v ≡ some p → Near P K w p → Over P K (some w) v
 near_over e (found k) = hit e k refl
 near_over e (contract.on k f n) = on e k (near_over f n)
 

@@ -47,14 +47,14 @@ module _ {P P' : Par} {K K' L : ℕ → Bool} {c p q : ℕ} (ed : Edge P P' K K'
   kept_par {x} e = ed.off x (not_c e) ∙ e
 
   -- a row that is low for neither c nor q keeps what is over it
-  pub keep : {v x : ℕ} {o : Option ℕ} → (Low P K L v c → ⊥) → (K q ≡ false → Low P K L v q → ⊥) → Low P K L v x → L x ≡ true → Over P K o x → Over P' K' o x
-  keep {v} {x} nc nq lw l (root e z) = root (ed.off x (λ y. nc (subst (λ (a : ℕ). Low P K L v a) y lw)) ∙ e) z
-  keep {v} {x} nc nq lw l (hit {p = y} e k z) = hit (kept_par e) (go (eq? y q)) z
+  pub keep : {v : ℕ} {o : Option ℕ} {x : ℕ} → (Low P K L v c → ⊥) → (K q ≡ false → Low P K L v q → ⊥) → Low P K L v x → L x ≡ true → Over P K o x → Over P' K' o x
+  keep {v = v} {x = x} nc nq lw l (root e z) = root (ed.off x (λ y. nc (subst (λ (a : ℕ). Low P K L v a) y lw)) ∙ e) z
+  keep {v = v} {x = x} nc nq lw l (hit {p = y} e k z) = hit (kept_par e) (go (eq? y q)) z
     where
       go : (y ≡ q) ⊎ (y ≡ q → ⊥) → K' y ≡ true
       go (inl t) = ap K' t ∙ ed.more (sym (ap K t) ∙ k)
       go (inr t) = ed.same y t ∙ k
-  keep {v} {x} {o} nc nq lw l (on {p = y} e k r) = go (eq? y q) (keep nc nq (down k e l lw) (lv.up e l) r)
+  keep {v} {o} {x} nc nq lw l (on {p = y} e k r) = go (eq? y q) (keep nc nq (down k e l lw) (lv.up e l) r)
     where
       go : (y ≡ q) ⊎ (y ≡ q → ⊥) → Over P' K' o y → Over P' K' o x
       go (inl t) ih = absurd (nq (sym (ap K t) ∙ k) (subst (λ (a : ℕ). Low P K L v a) t (down k e l lw)))

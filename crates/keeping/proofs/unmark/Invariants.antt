@@ -1,0 +1,12 @@
+-- `keeping::unmark` meets its contract: each cell passed holds the value.
+use mathlib.Core.Path.{◌≡◌}
+use Prim.Native.Nat.{ℕ, ◌<◌, ◌≤◌, ◌-◌}
+use lib.ListN.{length}
+use Rattle.meaning.specs.Words.{at}
+use Rattle.keeping.proofs.unmark.Given as goal
+
+abbrev pub invariant-loop-i : goal.invariant-loop-i
+invariant-loop-i l = (l.i ≤ length l.initial.marks) × (length l.marks ≡ length l.initial.marks) × ((k : ℕ) → k < l.i → at l.marks k ≡ 0)
+
+abbrev pub decreases-loop-i : goal.decreases-loop-i
+decreases-loop-i l = length l.initial.marks - l.i
