@@ -28,11 +28,11 @@ use Rattle.byrows.specs.Ground.{Ground, mem_all, rows_inside}
 
 module _ (P : Par) (rank : ℕ → ℕ) (ok : Aged P rank) (K : ℕ → Bool) where
   -- where nothing on the way from w up to c stands but w, and c's parent v does, v is the nearest above w
-  climb : (w c v : ℕ) → Above P c w → ((y : ℕ) → Above P c y → Above P y w → (y ≡ w → ⊥) → K y ≡ false) → P c ≡ some v → K v ≡ true → up P K w ≡ some v
-  climb w c v here h e k = up_here P K rank ok w v e k
-  climb w c v (step {p = p} f x) h e k =
+  climb : (c w v : ℕ) → Above P c w → ((y : ℕ) → Above P c y → Above P y w → (y ≡ w → ⊥) → K y ≡ false) → P c ≡ some v → K v ≡ true → up P K w ≡ some v
+  climb c w v here h e k = up_here P K rank ok w v e k
+  climb c w v (step {p = p} f x) h e k =
       up_on P K rank ok w p f (h p x (step f here) (λ q. omega (arith, ok.ranked.grows f, ap rank q)))
-      ∙ climb p c v x (λ y a b n. h y a (trans b (step f here)) (λ q. omega (arith, rank_le rank ok.ranked b, ok.ranked.grows f, ap rank q))) e k
+      ∙ climb c p v x (λ y a b n. h y a (trans b (step f here)) (λ q. omega (arith, rank_le rank ok.ranked b, ok.ranked.grows f, ap rank q))) e k
 
 module _ (P : Par) (rank : ℕ → ℕ) (ok : Aged P rank) (N : List ℕ) (nd : Nodes P N) (S : List ℕ) where
   abbrev K : ℕ → Bool
@@ -47,7 +47,7 @@ module _ (P : Par) (rank : ℕ → ℕ) (ok : Aged P rank) (N : List ℕ) (nd : 
   branch v c k e r =
       let l : _ = of_low P rank ok N nd S K ru Ages c (omega (arith, ok.ranked.grows e, ok.bound e)) r in
       let x : Low P K l.0 c = low_of P rank ok N nd S K ru Ages l.0 c l.1 in
-      (l.0, rw (x.in_set, drawn) (climb P rank ok K l.0 c v x.below (λ y a b n. not_true (K y) (λ z. n (antisym rank ok.ranked b (x.all z a)))) e k))
+      (l.0, rw (x.in_set, drawn) (climb P rank ok K c l.0 v x.below (λ y a b n. not_true (K y) (λ z. n (antisym rank ok.ranked b (x.all z a)))) e k))
 
   pub standing_parent : (v : ℕ) → K v ≡ true → mem v S ≡ false → (w : ℕ) × (drawn P K w ≡ some v)
   standing_parent v k m = go (stands_of P rank ok N nd S v k)

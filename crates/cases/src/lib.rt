@@ -5,7 +5,8 @@
 
 ghost use Rattle.std.specs.Prelude.{◌<◌, ◌≤◌};
 
-use libc::STDIN_FILENO;
+use std::io;
+use std::io::{ErrorKind, Read};
 
 // What every lent cell of words holds before a call, every one of bytes and every one of populations.
 pub const PATTERN: u32 = 4042322160;
@@ -32,27 +33,35 @@ pub fn front(s: &[u8], n: usize) -> &[u8] {
     if n <= s.len() { &s[..n] } else { s }
 }
 
+// Whether a read filled its buffer; that the input ended before is no error.
+fn filled(read: io::Result<()>) -> io::Result<bool> {
+    match read {
+        Ok(()) => Ok(true),
+        Err(e) if e.kind() == ErrorKind::UnexpectedEof => Ok(false),
+        Err(e) => Err(e),
+    }
+}
+
 // Fills the front of a buffer with the next bytes of the input; whether there were so many.
-pub fn fetch(buffer: &mut [u8], n: usize) -> bool {
+pub fn fetch(input: &mut impl Read, buffer: &mut [u8], n: usize) -> io::Result<bool> {
     if n <= buffer.len() {
-        let came = io::read_full(STDIN_FILENO, &mut buffer[..n]);
-        came == n
+        filled(input.read_exact(&mut buffer[..n]))
     } else {
-        false
+        Ok(false)
     }
 }
 
 // Reads the words before a case; there is none at the end of the input.
-pub fn next_case() -> Words {
+pub fn next_case(input: &mut impl Read) -> io::Result<Words> {
     let mut h = [0u8; 16];
-    let got = io::read_full(STDIN_FILENO, &mut h);
-    Words {
-        there: got == 16,
+    let there = filled(input.read_exact(&mut h))?;
+    Ok(Words {
+        there,
         kind: four(&h, 0),
         bytes: four(&h, 4) as usize,
         from: four(&h, 8) as usize,
         count: four(&h, 12) as usize,
-    }
+    })
 }
 
 fn wide(b: u8) -> u32

@@ -21,6 +21,7 @@ Has l a = Any (λ b. b ≡ a) l
 
 module _ {A : Type 0} {Q : A → Type 0} where
   pub all_at : {l : List A} (a : A) → All Q l → Has l a → Q a
+  all_at a done x3 = elim x3 [ ]
   all_at a (also q x) (now e) = rw e at q
   all_at a (also q x) (later y) = all_at a x y
 

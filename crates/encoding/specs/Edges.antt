@@ -105,6 +105,7 @@ module _ (L : ℕ) (time : ℕ → ℕ) (D : ℕ → Par) where
     by_parent p q h a b o u = of_less (edge_key time a) (edge_key time b) (rw (o, u) (longer (less_of (time p ∷ p ∷ []) (time q ∷ q ∷ []) h)))
       where
         longer : Less (time p ∷ p ∷ []) (time q ∷ q ∷ []) → Less (time p ∷ p ∷ a.child ∷ a.left ∷ []) (time q ∷ q ∷ b.child ∷ b.left ∷ [])
+        longer (tied e (tied _ x15)) = elim x15 [ ]
         longer (sooner l) = sooner l
         longer (tied e (sooner l)) = tied e (sooner l)
 

@@ -38,7 +38,7 @@ module _ {P : Par} where
       go (inl q) = inr (b, e ∙ ap some (sym q), here)
       go (inr r) = inr (r.0, r.1, step e r.2)
 
-  snoc : {a b p : ℕ} → P b ≡ some p → Down P p a → Down P b a
+  snoc : {p a b : ℕ} → P b ≡ some p → Down P p a → Down P b a
   snoc e still = down e still
   snoc e (down f x) = down f (snoc e x)
 
@@ -46,7 +46,7 @@ module _ {P : Par} where
   to_down here = still
   to_down (step e x) = snoc e (to_down x)
 
-  pub from_down : {a b : ℕ} → Down P b a → Above P a b
+  pub from_down : {b a : ℕ} → Down P b a → Above P a b
   from_down still = here
   from_down (down f z) = trans (step f here) (from_down z)
 
@@ -61,7 +61,7 @@ pub data Parts (P : Par) (m c d : ℕ) : Type 0 where
   fork : {e f : ℕ} → (e ≡ f → ⊥) → P e ≡ some m → P f ≡ some m → Above P e c → Above P f d → Parts P m c d
 
 module _ {P : Par} where
-  pub meet : {a c : ℕ} (d : ℕ) → Down P c a → Above P a d → (m : ℕ) × Above P a m × Parts P m c d
+  pub meet : {c a : ℕ} (d : ℕ) → Down P c a → Above P a d → (m : ℕ) × Above P a m × Parts P m c d
   meet {c = c} d still y = (c, here, first refl y)
   meet {c = c} d (down {a} {c = k} e x) y = go (child_to y) (λ z. meet d x z)
     where

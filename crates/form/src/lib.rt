@@ -8,7 +8,7 @@ pub mod lay; // lay.rt: records laid into lent bytes
 pub mod walk; // walk.rt: where the rows of each kind stand, or why not
 
 // The rows of one kind: where its records start, how many there are, and where they end.
-#[derive(Drop)]
+#[derive(Clone, Copy)]
 pub struct Stretch {
     pub start: usize,
     pub count: usize,
@@ -23,7 +23,7 @@ pub enum Step {
 }
 
 // The rows of every kind.
-#[derive(Drop)]
+#[derive(Clone, Copy)]
 pub struct Layout {
     pub samples: Stretch,
     pub nodes: Stretch,

@@ -42,6 +42,7 @@ module _ (y b : ℕ) where
 
   pub of_parent : (l : List Edge) (q : ℕ) → Any (Cov y b q) l → (r : ℕ) × (parent_in l y b ≡ some r)
   unfolding parent_in
+  of_parent [] q x' = elim x' [ ]
   of_parent (e ∷ l) q (now c) = (e.parent, rw (of_cov q e c, parent_in))
   of_parent (e ∷ l) q (later x) = go (holds y b e) refl (of_parent l q x)
     where

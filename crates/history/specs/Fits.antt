@@ -1,5 +1,5 @@
 -- The premise of the one-step law: neither call is refused, and the sample list of the first has all that is named later.
-use Rattle.std.specs.Prelude.{◌≡◌, true, List, ◌∷◌, ◌⊎◌, ℕ}
+use Rattle.std.specs.Prelude.{◌≡◌, true, List, [], ◌∷◌, ◌⊎◌, ℕ}
 use Rattle.std.proofs.Common.{sym}
 use Rattle.meaning.specs.Words.{mem}
 use Rattle.meaning.specs.Rows.{Edge, Record, births}
@@ -18,5 +18,6 @@ pub record Fits (R : Record) (B : Batch) (S S2 : List ℕ) : Type 0 where
 -- a parent that an edge of the batch gives is one that the batch names
 pub parents_have : (x v q : ℕ) (l : List Edge) → Any (Cov x v q) l → mem q (parents l) ≡ true
 unfolding parents
+parents_have x v q [] x'' = elim x'' [ ]
 parents_have x v q (e ∷ l) (now c) = mem_here q e.parent (parents l) (sym c.to_parent)
 parents_have x v q (e ∷ l) (later a) = mem_there q e.parent (parents l) (parents_have x v q l a)

@@ -40,6 +40,7 @@ module _ (x q : ℕ) where
   -- whose edge holds at x is a child
   pub child_there : (v : ℕ) (l : List Edge) → Any (Cov x v q) l → has_child l x q ≡ true
   unfolding has_child
+  child_there v [] x'' = elim x'' [ ]
   child_there v (e ∷ l) (now c) = any_hit (under x q) e l (under_of v e c)
   child_there v (e ∷ l) (later a) = ⊎_elim (λ (t : under x q e ≡ true). any_hit (under x q) e l t) (λ (t : under x q e ≡ false). any_miss (under x q) e l t ∙ child_there v l a) (truth (under x q e))
 

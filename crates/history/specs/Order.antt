@@ -33,14 +33,20 @@ less_of (a ∷ l) (b ∷ m) h = go (ltb a b) refl (eqb a b) refl (λ k. less_of 
 
 pub of_less : (l m : List ℕ) → Less l m → lex l m ≡ true
 unfolding lex
+of_less [] m x' = elim x' [ ]
+of_less (a ∷ l) [] x3 = elim x3 [ ]
 of_less (a ∷ l) (b ∷ m) (sooner p) = rw (lt-ltb a b p, lex)
 of_less (a ∷ l) (b ∷ m) (tied p q) = rw (le-ltb a b (omega arith), lex) (rw (eq-eqb a b p) (of_less l m q))
 
 less_irrefl : (l : List ℕ) → Less l l → ⊥
+less_irrefl [] x' = elim x' [ ]
 less_irrefl (a ∷ l) (sooner p) = omega arith
 less_irrefl (a ∷ l) (tied p q) = less_irrefl l q
 
 less_trans : (l m n : List ℕ) → Less l m → Less m n → Less l n
+less_trans [] m n x'' _ = elim x'' [ ]
+less_trans (a ∷ l) [] n x5 _ = elim x5 [ ]
+less_trans (a ∷ l) (b ∷ m) [] _ x9 = elim x9 [ ]
 less_trans (a ∷ l) (b ∷ m) (c ∷ n) (sooner p) (sooner q) = let z : a < c = omega arith in sooner z
 less_trans (a ∷ l) (b ∷ m) (c ∷ n) (sooner p) (tied q y) = let z : a < c = omega arith in sooner z
 less_trans (a ∷ l) (b ∷ m) (c ∷ n) (tied p x) (sooner q) = let z : a < c = omega arith in sooner z

@@ -78,6 +78,6 @@ module _ (Q : Mutation → Mutation → Type 0) (later : (m n : Mutation) → m.
       after : (l : List Mutation) → All (λ m. All (Q m) (by_site a b (suc i) k)) (of_site i l)
       after l = cross_to (λ m n e f. later m n (omega arith)) (site_all i l) (by_site_from a b (suc i) k)
 
-      join_all : {l m n : List Mutation} → All (λ u. All (Q u) m) l → All (λ u. All (Q u) n) l → All (λ u. All (Q u) (m ++ n)) l
+      join_all : {m l n : List Mutation} → All (λ u. All (Q u) m) l → All (λ u. All (Q u) n) l → All (λ u. All (Q u) (m ++ n)) l
       join_all done done = done
       join_all (also x p) (also y q) = also (all_app x y) (join_all p q)

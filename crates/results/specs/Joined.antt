@@ -12,7 +12,7 @@ use Rattle.meaning.specs.Forest.{Par, Ages, parent_in, above, ancestor}
 use Rattle.meaning.specs.Join.{Batch, keyed, by_site, join}
 use Rattle.laws.specs.Bools.{not_true}
 use Rattle.laws.specs.Members.{mem_left, mem_right}
-use Rattle.laws.specs.Facts.{Distinct, Any, now, later, All, also, Cov, Closed}
+use Rattle.laws.specs.Facts.{Distinct, Any, now, later, All, also, Cov, Closed, done}
 use Rattle.forest.specs.Lines.{Above, here, step}
 use Rattle.forest.specs.Carriers.{ancestor_of}
 use Rattle.forest.specs.Profile.{join_par}
@@ -25,7 +25,7 @@ use Rattle.history.specs.Moved.{all_by}
 use Rattle.history.specs.Joined.{join_births, base_time}
 use Rattle.history.specs.Pairs.{Pairs}
 use Rattle.history.specs.Alleles.{Settles}
-use Rattle.results.specs.Pairwise.{Pairwise, before_rest, pairwise_any, of_pairs, to_pairs, pairwise_app, pairwise_with, sort_pairwise, sort_ordered, sort_order}
+use Rattle.results.specs.Pairwise.{Pairwise, before_rest, pairwise_any, of_pairs, to_pairs, pairwise_app, pairwise_with, sort_pairwise, sort_ordered, sort_order, lone}
 use Rattle.results.specs.Facts.{Right, Parted, Rises, RecordSound}
 use Rattle.results.specs.Batched.{BatchFacts}
 use Rattle.results.specs.BySite.{cross_to, by_site_pairwise}
@@ -37,11 +37,13 @@ parted_turn d e h x c a b p q = h x (sym c) p q a b
 
 -- an edge that shares a position with no row of the list is no row's
 not_among : (x v q r : ℕ) (e : Edge) {l : List Edge} → All (Parted e) l → Cov x v q e → Any (Cov x v r) l → ⊥
+not_among x v q r e done c x6 = elim x6 [ ]
 not_among x v q r e (also h a) c (now d) = h x (c.of_child ∙ sym d.of_child) c.begun c.not_over d.begun d.not_over
 not_among x v q r e (also h a) c (later y) = not_among x v q r e a c y
 
 -- each child has one parent at a position
 parted_single : (x v q r : ℕ) {l : List Edge} → Pairwise Parted l → Any (Cov x v q) l → Any (Cov x v r) l → q ≡ r
+parted_single x v q r lone x6 _ = elim x6 [ ]
 parted_single x v q r (before_rest a p) (now c) (now d) = sym c.to_parent ∙ d.to_parent
 parted_single x v q r (before_rest {a = e} a p) (now c) (later y) = absurd (not_among x v q r e a c y)
 parted_single x v q r (before_rest {a = e} a p) (later y) (now d) = absurd (not_among x v r q e a d y)
@@ -163,10 +165,12 @@ module _ (L : ℕ) (R : Record) (B : Batch) (s : RecordSound L R) (t : BatchFact
       (record { single = λ v q r. parted_single x v q r t.parted; side = λ v q a. born_of t.child_in a })
     where
       child_of : {v q : ℕ} {l : List Edge} → All (λ (e : Edge). (mem e.parent NR ≡ true) × (mem e.child NR ≡ true)) l → Any (Cov x v q) l → mem v NR ≡ true
+      child_of {v = v} {q = q} done x4 = elim x4 [ ]
       child_of (also p a) (now c) = rw c.of_child at p.1
       child_of (also p a) (later y) = child_of a y
 
       born_of : {v q : ℕ} {l : List Edge} → All (λ (e : Edge). mem e.child NB ≡ true) l → Any (Cov x v q) l → mem v NB ≡ true
+      born_of {v = v} {q = q} done x4 = elim x4 [ ]
       born_of (also p a) (now c) = rw c.of_child at p
       born_of (also p a) (later y) = born_of a y
 
@@ -186,6 +190,7 @@ module _ (L : ℕ) (R : Record) (B : Batch) (s : RecordSound L R) (t : BatchFact
   base_above x v q e = go s.closed.edges_in (parent_of x v R.edges q e)
     where
       go : {l : List Edge} → All (λ (e : Edge). (mem e.parent NR ≡ true) × (mem e.child NR ≡ true)) l → Any (Cov x v q) l → mem q NR ≡ true
+      go done x4 = elim x4 [ ]
       go (also p a) (now c) = rw c.to_parent at p.0
       go (also p a) (later y) = go a y
 

@@ -66,11 +66,11 @@ pub record Ample (n r : Rows) : Type 0 where
 
 -- table t is the lowest that lacks room
 pub data Lowest (n r : Rows) : ℕ → Type 0 where
-  at-nodes : r.nodes < n.nodes → Lowest n r 1
-  at-edges : n.nodes ≤ r.nodes → r.edges < n.edges → Lowest n r 2
-  at-sites : n.nodes ≤ r.nodes → n.edges ≤ r.edges → r.sites < n.sites → Lowest n r 3
-  at-muts : n.nodes ≤ r.nodes → n.edges ≤ r.edges → n.sites ≤ r.sites → r.mutations < n.mutations → Lowest n r 4
-  at-samples : n.nodes ≤ r.nodes → n.edges ≤ r.edges → n.sites ≤ r.sites → n.mutations ≤ r.mutations → r.samples < n.samples → Lowest n r 5
+  at_nodes : r.nodes < n.nodes → Lowest n r 1
+  at_edges : n.nodes ≤ r.nodes → r.edges < n.edges → Lowest n r 2
+  at_sites : n.nodes ≤ r.nodes → n.edges ≤ r.edges → r.sites < n.sites → Lowest n r 3
+  at_muts : n.nodes ≤ r.nodes → n.edges ≤ r.edges → n.sites ≤ r.sites → r.mutations < n.mutations → Lowest n r 4
+  at_samples : n.nodes ≤ r.nodes → n.edges ≤ r.edges → n.sites ≤ r.sites → n.mutations ≤ r.mutations → r.samples < n.samples → Lowest n r 5
 
 unfoldable pub Lacking : Rows → Rows → Fault → Type 0
 Lacking n r fault.Nothing = Ample n r

@@ -13,7 +13,7 @@ mod measure; // measure.rt: whether what was found fits what is lent
 use form::Scan;
 
 // The rows of each table: as many as are found, as many as there is room for, or as many as were read.
-#[derive(Drop)]
+#[derive(Clone, Copy)]
 pub struct Rows {
     pub nodes: usize,
     pub edges: usize,

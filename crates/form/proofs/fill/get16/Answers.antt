@@ -1,0 +1,7 @@
+-- `form::fill::get16` meets its contract: the number by its two bytes. Assumes nothing.
+use Rattle.form.proofs.Filling.{number_two}
+use native.Mathlib.Omega.{arith}
+use Rattle.form.proofs.fill.get16.Goals as goal
+
+pub returns : goal.returns
+returns c = omega (arith, number_two c.args.s.now c.args.at, c.wide.ensures, c.wide-2.ensures)

@@ -1,0 +1,13 @@
+-- `form::lay::sample_row` meets its contract: the mark and the fields, one after the other. Assumes nothing.
+use mathlib.Core.List.{[], ◌∷◌}
+use Prim.Native.Nat.{◌+◌}
+use Rattle.meaning.specs.Stored.{bytes_of, record_at, fields_at}
+use Rattle.form.proofs.Laying.{lay_chain}
+use native.Mathlib.Omega.{arith}
+use Rattle.form.proofs.lay.sample_row.Goals as goal
+
+pub returns : goal.returns
+unfolding bytes_of record_at fields_at
+returns c = let e0 : _ = c.mark.ensures in
+    let e1 : _ = lay_chain c.args.at (c.args.at + 2) (83 ∷ 65 ∷ []) (bytes_of 4 c.args.birth) c.args.out.now e0 c.put32.ensures (omega arith) (omega (arith, c.requires)) in
+    e1

@@ -1,0 +1,20 @@
+-- `form::walk::kind` meets its contract: the stretch found ends where the kind's mark stands no more, or it is refused there. Assumes nothing.
+use mathlib.Core.Path.{sym, ◌∙◌}
+use Rattle.form.specs.Posts.{Stepped}
+use Rattle.form.proofs.Walking.{ends_within, kind_ends, kind_over, kind_cut}
+use Rattle.form.proofs.walk.kind.Goals as goal
+
+pub is_mark-requires : goal.is_mark-requires
+is_mark-requires c = ends_within c.args.a c.args.b c.args.size c.args.most c.args.s.now c.args.start c.stretch-rows.result c.stretch-rows.ensures c.requires
+
+pub returns-then-not-is_mark : goal.returns-then-not-is_mark
+unfolding Stepped
+returns-then-not-is_mark c = (c.stretch-rows.ensures, kind_ends c.args.a c.args.b c.args.size c.args.most c.args.s.now c.args.start c.stretch-rows.result c.stretch-rows.ensures (sym c.is_mark.ensures ∙ c.if-not-is_mark.true))
+
+pub returns-then-most-count : goal.returns-then-most-count
+unfolding Stepped
+returns-then-most-count c = kind_over c.args.a c.args.b c.args.size c.args.most c.args.s.now c.args.start c.stretch-rows.result c.stretch-rows.ensures (sym c.is_mark.ensures ∙ c.if-not-is_mark.false) c.if-most-count.true
+
+pub returns : goal.returns
+unfolding Stepped
+returns c = kind_cut c.args.a c.args.b c.args.size c.args.most c.args.s.now c.args.start c.stretch-rows.result c.stretch-rows.ensures (sym c.is_mark.ensures ∙ c.if-not-is_mark.false) c.if-most-count.false

@@ -1,0 +1,14 @@
+-- `listing::rows::mutation` meets its contract: the cells are read and written as one line. Assumes nothing.
+use mathlib.Core.Path.{sym}
+use Rattle.meaning.specs.Printed.{mutation_line}
+use Rattle.listing.proofs.Pieces.{three_as}
+use Rattle.listing.proofs.Writing.{wrote_as, room_as}
+use Rattle.listing.proofs.rows.mutation.Goals as goal
+
+pub three-requires : goal.three-requires
+unfolding mutation_line
+three-requires c = room_as c.args.at c.args.out.now (sym (three_as 77 c.cell-j.ensures c.cell-u.ensures c.state-s.ensures)) c.requires
+
+pub returns : goal.returns
+unfolding mutation_line
+returns c = wrote_as (three_as 77 c.cell-j.ensures c.cell-u.ensures c.state-s.ensures) c.three.ensures

@@ -1,0 +1,14 @@
+-- `listing::rows::site` meets its contract: the cells are read and written as one line. Assumes nothing.
+use mathlib.Core.Path.{sym}
+use Rattle.meaning.specs.Printed.{site_line}
+use Rattle.listing.proofs.Pieces.{two_as}
+use Rattle.listing.proofs.Writing.{wrote_as, room_as}
+use Rattle.listing.proofs.rows.site.Goals as goal
+
+pub two-requires : goal.two-requires
+unfolding site_line
+two-requires c = room_as c.args.at c.args.out.now (sym (two_as 83 c.cell-x.ensures c.state-s.ensures)) c.requires
+
+pub returns : goal.returns
+unfolding site_line
+returns c = wrote_as (two_as 83 c.cell-x.ensures c.state-s.ensures) c.two.ensures

@@ -1,0 +1,25 @@
+-- `first_lined` meets its contract: the lowest row lies from low on, up to high.
+use mathlib.Core.Path.{sym, ap, ◌∙◌}
+use mathlib.Core.Bool.{not}
+use Prim.Native.Nat.{◌-◌}
+use Rattle.laws.specs.Bools.{not_of}
+use Rattle.laws.specs.Counting.{lowest_le}
+use Rattle.rules.proofs.Halving.{none_below, halved_down, halved_up}
+use native.Mathlib.Omega.{arith}
+use borrow.Author.Rules.{rules}
+use Rattle.rules.proofs.repeated.first_lined.Goals as goal
+
+pub returns-then-not-some_repeated : goal.returns-then-not-some_repeated
+returns-then-not-some_repeated c = none_below _ _ (not_of _ (ap not (sym c.some_repeated.ensures ∙ c.if-not-some_repeated.true)))
+
+pub loop-low-init : goal.loop-low-init
+loop-low-init c = (search rules, lowest_le _ _, search rules)
+
+pub loop-low-preserved-then-some_repeated : goal.loop-low-preserved-then-some_repeated
+loop-low-preserved-then-some_repeated c = (c.loop-low.invariant.0, halved_down _ _ _ (sym c.some_repeated-in-loop-low.ensures ∙ c.if-some_repeated.true), omega (arith, c.middle-m.ensures.1, c.loop-low.invariant.2))
+
+pub loop-low-preserved : goal.loop-low-preserved
+loop-low-preserved c = (halved_up _ _ _ _ c.middle-m.ensures.1 c.loop-low.invariant.2 (sym c.some_repeated-in-loop-low.ensures ∙ c.if-some_repeated.false), c.loop-low.invariant.1, c.loop-low.invariant.2)
+
+pub returns : goal.returns
+returns c = omega (arith, c.loop-low.invariant.0, c.loop-low.invariant.1, c.loop-low-test.false)
