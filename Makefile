@@ -1,8 +1,8 @@
 # The calls from C: archive, tests, example, installation. The proofs and the other tests are run by rt (README.md).
 #
-#   make archive             prove crate ffr and write target/staticlib/libffr.a
+#   make archive             prove crate ffr and write crates/ffr/out/libffr.a
 #   make ctest               the calls compared with a second implementation, from C++ and C; no caller of the first interface can be built
-#   make example             a breeding run by the calls, listed by target/bin/ffridwelan, the alleles of its last fish, the stocks
+#   make example             a breeding run by the calls, listed by the program ffridwelan, the alleles of its last fish, the stocks
 #   make faults              that the tests see planted faults
 #   make attacks             wrong programs that the gate has no time for, each refused by the prover (all crates proved before)
 #   make bench               the calls beside C++ baselines, in time and instructions (bench/run)
@@ -35,8 +35,8 @@ STRICT := -Wall -Wextra -Wpedantic -Werror
 CFLAGS ?= -O2
 CXXFLAGS ?= -O2
 
-ARCHIVE := target/staticlib/libffr.a
-LISTER := target/bin/ffridwelan
+ARCHIVE := crates/ffr/out/libffr.a
+LISTER := crates/ffridwelan/out/ffridwelan
 # Compiled files, in a folder of their own for each way of building.
 OUT := target/cpp$(if $(filter 1,$(REFERENCE)),-reference)
 HEADERS := $(wildcard include/*) $(wildcard cpp/*.hpp) $(wildcard bench/*.hpp)
@@ -70,10 +70,12 @@ target/made/%: FORCE
 	@if cmp -s $@.new $@; then rm $@.new; else mv $@.new $@; fi
 
 $(ARCHIVE): target/made/ffr
-	rt staticlib ffr
+	cd crates/ffr && rt lib
+	@touch $@
 
+# Proved, built, and run once on nothing.
 $(LISTER): target/made/ffridwelan
-	rt check ffridwelan
+	cd crates/ffridwelan && rt run < /dev/null > /dev/null
 	@touch $@
 
 $(OUT):

@@ -12,7 +12,7 @@ use meaning::EdgeTable;
 
 // 01: "ancestral segments: a left, a right and an output row". Here the row is the parent row of a run.
 #[repr(C)]
-#[derive(Drop)]
+#[derive(Clone, Copy)]
 pub struct Segment {
     pub left: u32,
     pub right: u32,
