@@ -38,10 +38,10 @@ module _ {L : ℕ} {T : Tables} {S : List ℕ} {W : Work} (r : Ready L T S W) wh
   m = W.moves.count
 
   edges_fit : length T.edges.left ≤ limits.edges
-  edges_fit = r.ground.sound.size.edges
+  edges_fit = r.footing.sound.size.edges
 
   nodes_fit : length T.nodes.time ≤ limits.nodes
-  nodes_fit = r.ground.sound.size.nodes
+  nodes_fit = r.footing.sound.size.nodes
 
   -- what filling the lists asks
   pub fill_ready : {E : EdgeColumns} {M : MutationColumns} → RoomForLists k m E M → Sweepable L (input_in T W) × (length T.nodes.time ≤ length W.sample) × (length T.edges.left ≤ length W.by_left) × (length T.edges.left ≤ length W.by_right) × Fillable (length T.nodes.time) k m W.store.stood (record { left = W.store.left; right = W.store.right; parent = W.store.parent; child = W.store.child }) W.moves E M.site M.node
@@ -81,10 +81,10 @@ module _ {L : ℕ} {T : Tables} {S : List ℕ} {W : Work} (r : Ready L T S W) wh
     -- what putting the edges in key order asks
     pub finish_ready : {by : List ℕ} (order spare : List ℕ) → Ranked T.nodes.birth by → length order ≡ limits.edges → length spare ≡ limits.edges → (length T.nodes.birth ≡ length T.nodes.time) × (length T.nodes.time ≤ 1024) × Ranked T.nodes.birth by × Apart T.nodes.birth × (k ≤ length E₂.left) × (k ≤ length E₂.right) × (k ≤ length E₂.parent) × (k ≤ length E₂.child) × (k ≤ length order) × (k ≤ length spare) × (k ≤ 4294967295) × Inside (length T.nodes.time) (take k E₂.parent) × Inside (length T.nodes.time) (take k E₂.child) × InTurns E₂.left E₂.child k
     finish_ready order spare a b c = (
-      r.ground.sound.shape.births,
+      r.footing.sound.shape.births,
       nodes_fit,
       a,
-      once limits L T S r.ground,
+      once limits L T S r.footing,
       omega (arith, room.left, f.left_front.long),
       omega (arith, room.right, f.right_front.long),
       parent_room,
@@ -104,10 +104,10 @@ module _ {L : ℕ} {T : Tables} {S : List ℕ} {W : Work} (r : Ready L T S W) wh
   -- ---- all tables
 
   pub nodes_ready : {n : Needs} {l : Lent} → n.nodes ≡ W.nodes → RoomFor n l → (W.nodes ≤ length W.kept) × (W.nodes ≤ l.time) × (W.nodes ≤ l.birth) × (W.nodes ≤ l.population) × Inside (length T.nodes.time) (take W.nodes W.kept) × (length T.nodes.birth ≡ length T.nodes.time) × (length T.nodes.population ≡ length T.nodes.time)
-  nodes_ready e room = (r.kept_long, omega (arith, room.time), omega (arith, room.birth), omega (arith, room.population), kept_inside L T S W r, r.ground.sound.shape.births, r.ground.sound.shape.populations)
+  nodes_ready e room = (r.kept_long, omega (arith, room.time), omega (arith, room.birth), omega (arith, room.population), kept_inside L T S W r, r.footing.sound.shape.births, r.footing.sound.shape.populations)
 
   pub states_even : length T.sites.ancestral ≡ length T.sites.position
-  states_even = r.ground.sound.shape.states
+  states_even = r.footing.sound.shape.states
 
   pub map_room : length T.nodes.time ≤ length W.places
   map_room = omega (arith, r.long.places, nodes_fit)

@@ -37,17 +37,17 @@ module _ {L : ℕ} {N : NodeColumns} {E : EdgeColumns} {position site node S : L
   SR = sample_rows N.birth S
 
   births : length N.birth ≡ length N.time
-  births = p.ground.sound.shape.births
+  births = p.footing.sound.shape.births
 
   abbrev inputs : List ℕ → List ℕ → List ℕ → Input
   inputs sample bl br = record { time = N.time; sample = sample; left = E.left; right = E.right; parent = E.parent; child = E.child; by_left = bl; by_right = br; position = position; site = site; node = node }
 
   pub edges_fit : (length E.left ≤ limits.edges) × (length E.right ≤ limits.edges)
-  edges_fit = (p.ground.sound.size.edges, omega (arith, p.ground.sound.size.edges, p.ground.sound.shape.rights))
+  edges_fit = (p.footing.sound.size.edges, omega (arith, p.footing.sound.size.edges, p.footing.sound.shape.rights))
 
   flags : (sample : List ℕ) → sample ≡ rows (λ u. bit (mem u SR)) (length N.time) → Flags sample SR (length N.time)
   flags sample e = record {
-    set = λ s m. let l : s < length N.time = omega (arith, births, mem_all SR (samples_inside limits L _ S p.ground) s m) in (l, omega (arith, cell s l, bit_of (mem s SR) m));
+    set = λ s m. let l : s < length N.time = omega (arith, births, mem_all SR (samples_inside limits L _ S p.footing) s m) in (l, omega (arith, cell s l, bit_of (mem s SR) m));
     only = λ s l h. of_bit (mem s SR) (omega (arith, cell s l));
   }
     where
@@ -62,11 +62,11 @@ module _ {L : ℕ} {N : NodeColumns} {E : EdgeColumns} {position site node S : L
       (rw (take_at pl rl (length E.left) a)
       (rw (take_at pr rr (length E.left) b)
       (record {
-        few = p.ground.sound.size.nodes;
+        few = p.footing.sound.size.nodes;
         samples = m;
         plan = plan L N E position site node S p pl pr s t;
         sites = sited L N E position site node S p sp pl pr;
-        numbered = p.ground.sound.size.muts;
+        numbered = p.footing.sound.size.muts;
       })))
 
   pub traced : (kept kept' sp srest pl rl pr rr fl fr fp fc st strest : List ℕ) (r : ℕ) (D₀ : Store) (W₀ W : Moves) → kept' ≡ put SR kept → sp ≡ rows (λ u. bit (mem u SR)) (length N.birth) → length pl ≡ length E.left → length pr ≡ length E.left → SortedFrom (by_keys E.left E.left E.left E.left) (rows (λ i. i) (length E.left)) pl → SortedFrom (by_keys E.right E.right E.right E.right) (rows (λ i. i) (length E.right)) pr → length st ≡ length N.time → ((Q : List ℕ) → Flags (take (length N.time) (sp ++ srest)) Q (length N.time) → Done L (inputs (take (length N.time) (sp ++ srest)) (take (length E.left) (pl ++ rl)) (take (length E.left) (pr ++ rr))) Q D₀ W₀ (record { left = fl; right = fr; parent = fp; child = fc; stood = st; count = r }) W) → Traced L (inputs (take (length N.time) (sp ++ srest)) (take (length E.left) (pl ++ rl)) (take (length E.left) (pr ++ rr))) SR kept kept' D₀ (record { left = fl; right = fr; parent = fp; child = fc; stood = take (length N.time) (st ++ strest); count = r }) W₀ W

@@ -56,7 +56,7 @@ module _ (L : ℕ) (T : Tables) (S : List ℕ) (g : Ground limits L T S) (W : Wo
   -- all that is needed
   pub ready : Ready L T S W
   ready = record {
-    ground = g;
+    footing = g;
     long = long;
     sweepable = t.sweepable;
     flags = t.flags;

@@ -88,13 +88,13 @@ module _ (L : ℕ) (N : NodeColumns) (E : EdgeColumns) (position site node S : L
   apart e f h l c = go (trichotomy (at E.left e) (at E.left f)) (trichotomy (at E.right e) (at E.left f)) (trichotomy (at E.right f) (at E.left e))
     where
       share : (x : ℕ) → at E.left e ≤ x → at E.left f ≤ x → x < at E.right e → x < at E.right f → ⊥
-      share x a b c' d = p.ground.sound.tree.single e f x h l (sym c) (record { begun = b; not_over = d }) (record { begun = a; not_over = c' })
+      share x a b c' d = p.footing.sound.tree.single e f x h l (sym c) (record { begun = b; not_over = d }) (record { begun = a; not_over = c' })
 
       w : at E.left e < at E.right e
-      w = (p.ground.sound.tree.edge e l).some_position
+      w = (p.footing.sound.tree.edge e l).some_position
 
       v : at E.left f < at E.right f
-      v = (p.ground.sound.tree.edge f (omega arith)).some_position
+      v = (p.footing.sound.tree.edge f (omega arith)).some_position
 
       go : (at E.left e < at E.left f) ⊎ ((at E.left e ≡ at E.left f) ⊎ (at E.left f < at E.left e)) → (at E.right e < at E.left f) ⊎ ((at E.right e ≡ at E.left f) ⊎ (at E.left f < at E.right e)) → (at E.right f < at E.left e) ⊎ ((at E.right f ≡ at E.left e) ⊎ (at E.left e < at E.right f)) → (at E.right e ≤ at E.left f) ⊎ (at E.right f ≤ at E.left e)
       go o (inl a) r = inl (omega arith)
@@ -106,17 +106,17 @@ module _ (L : ℕ) (N : NodeColumns) (E : EdgeColumns) (position site node S : L
       go (inr (inr o)) (inr (inr a)) (inr (inr b)) = absurd (share (at E.left e) (omega arith) (omega arith) w b)
 
   edge : (e : ℕ) → e < length E.child → e < length E.left
-  edge e l = omega (arith, p.ground.sound.shape.children)
+  edge e l = omega (arith, p.footing.sound.shape.children)
 
   checked : Checked N.time E.left E.right E.parent E.child (length N.time)
   checked = record {
-    lefts = sym p.ground.sound.shape.children;
-    rights = p.ground.sound.shape.rights ∙ sym p.ground.sound.shape.children;
-    parents = p.ground.sound.shape.parents ∙ sym p.ground.sound.shape.children;
-    parent = λ e l. (p.ground.sound.tree.edge e (edge e l)).parent_row;
-    child = λ e l. (p.ground.sound.tree.edge e (edge e l)).child_row-is;
-    wide = λ e l. (p.ground.sound.tree.edge e (edge e l)).some_position;
-    older = λ e l. (p.ground.sound.tree.edge e (edge e l)).older;
+    lefts = sym p.footing.sound.shape.children;
+    rights = p.footing.sound.shape.rights ∙ sym p.footing.sound.shape.children;
+    parents = p.footing.sound.shape.parents ∙ sym p.footing.sound.shape.children;
+    parent = λ e l. (p.footing.sound.tree.edge e (edge e l)).parent_row;
+    child = λ e l. (p.footing.sound.tree.edge e (edge e l)).child_row-is;
+    wide = λ e l. (p.footing.sound.tree.edge e (edge e l)).some_position;
+    older = λ e l. (p.footing.sound.tree.edge e (edge e l)).older;
     apart = λ e f l k n c. ⊎_elim
         (λ (q : f < e). apart e f q (edge e l) c)
         (λ r. ⊎_elim (λ (q : f ≡ e). absurd (n (sym q))) (λ (q : e < f). ⊎_elim (λ (a : at E.right f ≤ at E.left e). inr a) (λ (a : at E.right e ≤ at E.left f). inl a) (apart f e q (edge f k) (sym c))) r)
@@ -126,16 +126,16 @@ module _ (L : ℕ) (N : NodeColumns) (E : EdgeColumns) (position site node S : L
   pub plan : (bl br : List ℕ) → SortedFrom (by_keys E.left E.left E.left E.left) (rows (λ i. i) (length E.left)) bl → SortedFrom (by_keys E.right E.right E.right E.right) (rows (λ i. i) (length E.right)) br → Plan N.time E.left E.right E.parent E.child bl br (length N.time)
   plan bl br a b = record {
     checked = checked;
-    lefts = rw p.ground.sound.shape.children (index_of-is E.left bl (length E.left) a);
-    rights = rw p.ground.sound.shape.children (rw p.ground.sound.shape.rights at (index_of-is E.right br (length E.right) b));
+    lefts = rw p.footing.sound.shape.children (index_of-is E.left bl (length E.left) a);
+    rights = rw p.footing.sound.shape.children (rw p.footing.sound.shape.rights at (index_of-is E.right br (length E.right) b));
   }
 
   pub sited : (sample bl br : List ℕ) → Sited L (record { time = N.time; sample = sample; left = E.left; right = E.right; parent = E.parent; child = E.child; by_left = bl; by_right = br; position = position; site = site; node = node })
   sited sample bl br = record {
-    nodes = p.ground.sound.shape.mutated;
-    site_row = p.ground.sound.sites.site_row;
-    node_row = p.ground.sound.sites.node_row;
-    inside = p.ground.sound.sites.inside;
-    ascending = p.ground.sound.sites.ascending;
-    rising = p.ground.sound.sites.rising;
+    nodes = p.footing.sound.shape.mutated;
+    site_row = p.footing.sound.sites.site_row;
+    node_row = p.footing.sound.sites.node_row;
+    inside = p.footing.sound.sites.inside;
+    ascending = p.footing.sound.sites.ascending;
+    rising = p.footing.sound.sites.rising;
   }

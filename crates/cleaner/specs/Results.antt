@@ -48,7 +48,7 @@ module _ (L : ℕ) (T : Tables) (S : List ℕ) (W : Work) (r : Ready L T S W) wh
   K = SR ++ r.others
 
   abbrev g : Ground limits L T S
-  g = r.ground
+  g = r.footing
 
   abbrev low_of : ℕ → ℕ
   low_of i = code (low_row T.edges n SR (at T.sites.position (at T.muts.site i)) (at T.muts.node i))

@@ -20,7 +20,7 @@ pub record Passed (L : ℕ) (N : NodeColumns) (E : EdgeColumns) (position site n
   pub population : List ℕ
   pub ancestral : List ℕ
   pub derived : List ℕ
-  pub ground : Ground limits L (record { nodes = node_table N.time N.birth population; edges = E; sites = record { position = position; ancestral = ancestral }; muts = record { site = site; node = node; derived = derived } }) S
+  pub footing : Ground limits L (record { nodes = node_table N.time N.birth population; edges = E; sites = record { position = position; ancestral = ancestral }; muts = record { site = site; node = node; derived = derived } }) S
 
 -- the samples' rows SR stand in front, each is marked, and a sweep over I, which could be made again, was made into D and M
 pub record Traced (L : ℕ) (I : Input) (SR kept kept' : List ℕ) (D₀ D : Store) (M₀ M : Moves) : Type 0 where

@@ -48,7 +48,7 @@ pub record Long (T : Tables) (W : Work) : Type 0 where
 
 -- the first sweep was made, the rows kept and their places are known, and a sweep may be made again
 pub record Ready (L : ℕ) (T : Tables) (S : List ℕ) (W : Work) : Type 0 where
-  pub ground : Ground limits L T S
+  pub footing : Ground limits L T S
   pub long : Long T W
   pub sweepable : Sweepable L (input_in T W)
   pub flags : Flags (take (length T.nodes.time) W.sample) (sample_rows T.nodes.birth S) (length T.nodes.time)
@@ -56,7 +56,7 @@ pub record Ready (L : ℕ) (T : Tables) (S : List ℕ) (W : Work) : Type 0 where
   pub moved : Moves
   pub swept : Done L (input_in T W) (sample_rows T.nodes.birth S) stored moved (store_of (length T.nodes.time) W.store) W.moves
   pub others : List ℕ
-  pub known : Others limits L T S ground others
+  pub known : Others limits L T S footing others
   pub kept_long : W.nodes ≤ length W.kept
   pub kept_is : take W.nodes W.kept ≡ sample_rows T.nodes.birth S ++ others
   pub placed : take (length T.nodes.birth) W.places ≡ map (row_in (sample_rows T.nodes.birth S ++ others)) (all_rows (length T.nodes.birth))

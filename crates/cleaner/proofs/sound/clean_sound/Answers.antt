@@ -39,7 +39,7 @@ pub slice_bounds-work-end-11 : goal.slice_bounds-work-end-11
 slice_bounds-work-end-11 c = sym (length-replicate {A = ℕ} 512 0)
 
 pub work-z-requires : goal.work-z-requires
-work-z-requires c = (record { population = _; ancestral = _; derived = _; ground = c.requires.0 }, (length-replicate {A = ℕ} 1280 0, length-replicate {A = ℕ} 1024 0, length-replicate {A = ℕ} 1024 0, c.requires.2, length-replicate {A = ℕ} 4096 0, refl, refl, refl, length-replicate {A = ℕ} 1024 0, refl), c.requires.1)
+work-z-requires c = (record { population = _; ancestral = _; derived = _; footing = c.requires.0 }, (length-replicate {A = ℕ} 1280 0, length-replicate {A = ℕ} 1024 0, length-replicate {A = ℕ} 1024 0, c.requires.2, length-replicate {A = ℕ} 4096 0, refl, refl, refl, length-replicate {A = ℕ} 1024 0, refl), c.requires.1)
 
 pub no_room_within-t-requires : goal.no_room_within-t-requires
 no_room_within-t-requires c = tt

@@ -17,7 +17,7 @@ pub slice_bounds-sample_rows-end-2 : goal.slice_bounds-sample_rows-end-2
 slice_bounds-sample_rows-end-2 c = cut (length c.args.time.now) c.args.sample.now (nodes_within c.requires.0 c.args.sample.now c.requires.1.2)
 
 pub sample_rows-requires : goal.sample_rows-requires
-sample_rows-requires c = (c.requires.0.ground.listed.known, omega (arith, c.requires.0.ground.listed.few, c.requires.1.0), omega (arith, c.requires.0.ground.sound.size.nodes, c.requires.0.ground.sound.shape.births), sym (cut (length c.args.time.now) c.args.sample.now (nodes_within c.requires.0 c.args.sample.now c.requires.1.2)) ∙ sym c.requires.0.ground.sound.shape.births, c.requires.2)
+sample_rows-requires c = (c.requires.0.footing.listed.known, omega (arith, c.requires.0.footing.listed.few, c.requires.1.0), omega (arith, c.requires.0.footing.sound.size.nodes, c.requires.0.footing.sound.shape.births), sym (cut (length c.args.time.now) c.args.sample.now (nodes_within c.requires.0 c.args.sample.now c.requires.1.2)) ∙ sym c.requires.0.footing.sound.shape.births, c.requires.2)
 
 pub slice_bounds-both_orders-end : goal.slice_bounds-both_orders-end
 slice_bounds-both_orders-end c = edges_within c.requires.0 c.args.bl.now c.requires.1.3
@@ -32,7 +32,7 @@ pub slice_bounds-both_orders-end-4 : goal.slice_bounds-both_orders-end-4
 slice_bounds-both_orders-end-4 c = cut (length c.args.left.now) c.args.br.now (edges_within c.requires.0 c.args.br.now c.requires.1.4)
 
 pub both_orders-requires : goal.both_orders-requires
-both_orders-requires c = (c.requires.0.ground.sound.shape.rights, c.requires.0.ground.sound.shape.children, sym (cut (length c.args.left.now) c.args.bl.now (edges_within c.requires.0 c.args.bl.now c.requires.1.3)), sym (cut (length c.args.left.now) c.args.br.now (edges_within c.requires.0 c.args.br.now c.requires.1.4)), omega (arith, (edges_fit c.requires.0).0))
+both_orders-requires c = (c.requires.0.footing.sound.shape.rights, c.requires.0.footing.sound.shape.children, sym (cut (length c.args.left.now) c.args.bl.now (edges_within c.requires.0 c.args.bl.now c.requires.1.3)), sym (cut (length c.args.left.now) c.args.br.now (edges_within c.requires.0 c.args.br.now c.requires.1.4)), omega (arith, (edges_fit c.requires.0).0))
 
 pub slice_bounds-swept-end : goal.slice_bounds-swept-end
 slice_bounds-swept-end c = nodes_within c.requires.0 (c.sample_rows.new.sample ++ drop (length c.args.time.now) c.args.sample.now) (length_front c.args.sample.now c.sample_rows.new.sample (length c.args.time.now) c.sample_rows.auto.sample ∙ c.requires.1.2)
@@ -62,7 +62,7 @@ pub swept-found-requires : goal.swept-found-requires
 swept-found-requires c = (sweepable c.requires.0 c.sample_rows.new.sample (drop (length c.args.time.now) c.args.sample.now) c.both_orders.new.bl (drop (length c.args.left.now) c.args.bl.now) c.both_orders.new.br (drop (length c.args.left.now) c.args.br.now) c.sample_rows.ensures.1 (c.both_orders.auto.bl ∙ sym (cut (length c.args.left.now) c.args.bl.now (edges_within c.requires.0 c.args.bl.now c.requires.1.3))) (c.both_orders.auto.br ∙ sym (cut (length c.args.left.now) c.args.br.now (edges_within c.requires.0 c.args.br.now c.requires.1.4))) c.both_orders.ensures.0 c.both_orders.ensures.1, record { right_long = c.requires.1.5; parent_long = c.requires.1.6; child_long = c.requires.1.7; stood_long = sym (cut (length c.args.time.now) c.args.stood.now (nodes_within c.requires.0 c.args.stood.now c.requires.1.8)) }, c.requires.1.9)
 
 pub keep_rows-nodes-requires : goal.keep_rows-nodes-requires
-keep_rows-nodes-requires c = (nodes_within c.requires.0 (c.sample_rows.new.sample ++ drop (length c.args.time.now) c.args.sample.now) (length_front c.args.sample.now c.sample_rows.new.sample (length c.args.time.now) c.sample_rows.auto.sample ∙ c.requires.1.2), nodes_within c.requires.0 (c.swept-found.new.stood ++ drop (length c.args.time.now) c.args.stood.now) (length_front c.args.stood.now c.swept-found.new.stood (length c.args.time.now) c.swept-found.auto.stood ∙ c.requires.1.8), c.requires.0.ground.sound.shape.births, omega (arith, c.sample_rows.auto.srow, c.requires.1.0, c.requires.0.ground.sound.size.nodes, c.requires.0.ground.listed.few), omega (arith, c.sample_rows.auto.srow, c.requires.1.0), nodes_within c.requires.0 c.args.places.now c.requires.1.1, c.requires.0.ground.sound.tree.once, samples_rows c.requires.0 _ _ c.sample_rows.ensures.0)
+keep_rows-nodes-requires c = (nodes_within c.requires.0 (c.sample_rows.new.sample ++ drop (length c.args.time.now) c.args.sample.now) (length_front c.args.sample.now c.sample_rows.new.sample (length c.args.time.now) c.sample_rows.auto.sample ∙ c.requires.1.2), nodes_within c.requires.0 (c.swept-found.new.stood ++ drop (length c.args.time.now) c.args.stood.now) (length_front c.args.stood.now c.swept-found.new.stood (length c.args.time.now) c.swept-found.auto.stood ∙ c.requires.1.8), c.requires.0.footing.sound.shape.births, omega (arith, c.sample_rows.auto.srow, c.requires.1.0, c.requires.0.footing.sound.size.nodes, c.requires.0.footing.listed.few), omega (arith, c.sample_rows.auto.srow, c.requires.1.0), nodes_within c.requires.0 c.args.places.now c.requires.1.1, c.requires.0.footing.sound.tree.once, samples_rows c.requires.0 _ _ c.sample_rows.ensures.0)
 
 pub shape_of-kept : goal.shape_of-kept
 shape_of-kept c = c.keep_rows-nodes.auto.kept ∙ c.sample_rows.auto.srow
