@@ -1,23 +1,20 @@
 -- What each rule of a batch has found where it does not refuse, so that the next may be asked, and each way out of 22 to 26.
 use mathlib.Core.Path.{◌≡◌, refl, sym, ap, fun_ext, ◌∙◌}
-use mathlib.Core.Bool.{Bool, true, false, not}
-use mathlib.Core.List.{List, [], ◌∷◌, ◌++◌}
-use mathlib.Core.Logic.{◌⊎◌}
-use Prim.Native.Nat.{ℕ, ◌+◌, ◌<◌, ◌≤◌}
+use mathlib.Core.Bool.{true, false, not}
+use mathlib.Core.List.{List, []}
+use Prim.Native.Nat.{ℕ, ◌<◌, ◌≤◌}
 use native.Mathlib.Omega.{arith}
 use lib.Dec.{leb, ltb}
 use lib.ListN.{length}
 use borrow.Author.Tests.{ltb-false, leb-false}
 use Rattle.meaning.specs.Words.{or, at, mem, lowest}
-use Rattle.meaning.specs.Rows.{Tables, Edge, EdgeColumns, edges_of}
+use Rattle.meaning.specs.Rows.{Tables, Edge}
 use Rattle.meaning.specs.Answer.{Answer, answer, done, limits, refuse_row}
 use Rattle.meaning.specs.Check.{repeated, edge_shared, mutation_above, overtakes}
 use Rattle.meaning.specs.Join.{BatchTables, batch_birth, batch_edge, batch_mutation, batch_rules, time_in}
 use Rattle.laws.specs.Bools.{or_of, or_no, not_no}
 use Rattle.rules.specs.Asked.{EvenEdges}
 use Rattle.rules.specs.Lined.{Somewhere}
-use Rattle.bridge.specs.Columns.{Apart}
-use Rattle.ancestry.specs.Column.{Rising}
 use Rattle.checker.proofs.Rows.{apart}
 use Rattle.checker.proofs.Order.{row_found, row_none, none_found}
 use Rattle.accepted.specs.Batches.{BatchEdgeRight, edges_with}

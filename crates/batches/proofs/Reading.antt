@@ -1,21 +1,21 @@
 -- The edges and mutations of base and batch by rows, read back by births: the definitions' lists, and rule 26.
-use mathlib.Core.Path.{◌≡◌, refl, sym, ap, ap₂, ◌∙◌}
-use mathlib.Core.Bool.{Bool, true, false}
-use mathlib.Core.List.{List, [], ◌∷◌, ◌++◌, map}
-use mathlib.Core.Logic.{◌⊎◌, inl, inr, ⊎_elim}
-use Prim.Native.Nat.{ℕ, zero, suc, ◌+◌, ◌-◌, ◌<◌, ◌≤◌}
+use mathlib.Core.Path.{◌≡◌, sym, ap, ap₂, ◌∙◌}
+use mathlib.Core.Bool.{true}
+use mathlib.Core.List.{List, ◌++◌}
+use mathlib.Core.Logic.{⊎_elim}
+use Prim.Native.Nat.{ℕ, ◌+◌, ◌-◌, ◌<◌, ◌≤◌}
 use native.Mathlib.Omega.{arith}
 use lib.Dec.{eqb}
-use lib.ListN.{length, get_or, length-append, length-map}
+use lib.ListN.{length, get_or, length-append}
 use lib.Seq.{ext_get_or}
 use Rattle.meaning.specs.Words.{and, at, mem, index_of, lowest, rows}
 use Rattle.meaning.specs.Rows.{EdgeColumns, MutationColumns, Tables, Edge, edges_of}
-use Rattle.meaning.specs.Join.{BatchTables, time_in}
+use Rattle.meaning.specs.Join.{BatchTables}
 use Rattle.meaning.specs.Forest.{parent_in, ancestor}
 use Rattle.meaning.specs.Check.{mutation_above, overtakes}
 use Rattle.laws.specs.Counting.{length_rows, get_rows}
 use Rattle.laws.specs.Members.{index_at, index_below, mem_right}
-use Rattle.bridge.specs.Columns.{Apart, edge_row, any_same, lowest_same, births_lowest_10}
+use Rattle.bridge.specs.Columns.{edge_row, any_same, lowest_same, births_lowest_10}
 use Rattle.overtaking.specs.Overtaken.{overtaken, lowest_10}
 use Rattle.accepted.specs.Batches.{edges_with}
 use Rattle.batches.specs.Joint.{rows_in, joint_edges, all_births, Joint}

@@ -1,5 +1,5 @@
 -- What the test of a batch row comes to, one law for each way out of the code that tests it.
-use mathlib.Core.Path.{◌≡◌, refl, sym, ap, ◌∙◌}
+use mathlib.Core.Path.{◌≡◌, refl, sym, ◌∙◌}
 use mathlib.Core.Bool.{Bool, true, false, not}
 use mathlib.Core.List.{List}
 use Prim.Native.Nat.{ℕ, ◌+◌, ◌-◌, ◌<◌, ◌≤◌}
@@ -11,7 +11,7 @@ use Rattle.meaning.specs.Words.{or, at, mem, lowest}
 use Rattle.meaning.specs.Rows.{NodeColumns, EdgeColumns, MutationColumns}
 use Rattle.meaning.specs.Join.{batch_birth, batch_edge, batch_mutation, time_in}
 use Rattle.meaning.specs.Check.{repeated}
-use Rattle.laws.specs.Bools.{or_left, or_right, not_no}
+use Rattle.laws.specs.Bools.{or_left, or_right}
 use Rattle.laws.specs.Counting.{lowest_le, before_lowest, lowest_passes, lowest_none, lowest_is}
 
 -- ---- two tests together

@@ -1,26 +1,23 @@
 -- Base and batch by rows: births stay apart, times and edges are read back, and parents are older than children.
 use mathlib.Core.Path.{◌≡◌, refl, sym, ap, ap₂, subst, ◌∙◌}
 use mathlib.Core.Bool.{Bool, true, false}
-use mathlib.Core.List.{List, [], ◌∷◌, ◌++◌, map}
+use mathlib.Core.List.{List}
 use mathlib.Core.Logic.{◌⊎◌, inl, inr, ⊎_elim}
-use Prim.Native.Nat.{ℕ, zero, suc, ◌+◌, ◌-◌, ◌<◌, ◌≤◌}
+use Prim.Native.Nat.{ℕ, ◌+◌, ◌-◌, ◌<◌, ◌≤◌}
 use native.Mathlib.Omega.{arith}
 use lib.Dec.{ltb}
-use lib.ListN.{length, get_or, length-append, length-map}
-use lib.Seq.{ext_get_or}
+use lib.ListN.{length, length-append}
 use borrow.Author.Tests.{ltb-true, ltb-false}
-use Rattle.meaning.specs.Words.{at, mem, index_of, rows}
-use Rattle.meaning.specs.Rows.{EdgeColumns, Tables, Edge, edges_of}
+use Rattle.meaning.specs.Words.{at, mem, index_of}
+use Rattle.meaning.specs.Rows.{EdgeColumns, Tables, Edge}
 use Rattle.meaning.specs.Join.{BatchTables, time_in}
 use Rattle.laws.specs.Bools.{clash, truth}
-use Rattle.laws.specs.Counting.{length_rows, get_rows}
 use Rattle.laws.specs.Members.{at_mem, index_at, index_below, mem_left, mem_right, mem_split}
-use Rattle.bridge.specs.Columns.{Apart, edge_row}
+use Rattle.bridge.specs.Columns.{Apart}
 use Rattle.ancestry.specs.Column.{Rising}
-use Rattle.accepted.specs.Batches.{edges_with}
 use Rattle.batches.specs.Joint.{rows_in, joint_edges, all_births, all_times, Joint}
 use Rattle.batches.proofs.Fronts.{get_left, get_right, get_map, length_mapped}
-use Rattle.batches.proofs.Born.{index_there, index_left, index_right, index_not_there, time_base, time_batch}
+use Rattle.batches.proofs.Born.{index_there, index_left, index_right, time_base, time_batch}
 
 -- below n, or not
 pub before : (i n : ℕ) → (i < n) ⊎ (n ≤ i)

@@ -3,9 +3,9 @@ use Rattle.std.specs.Prelude.{◌≡◌, Bool, true, false, not, eqb, leb, ltb, 
 use Rattle.std.proofs.Math.Path.{refl, ap, ap₂, fun_ext}
 use Rattle.std.proofs.Common.{sym, ◌∙◌, arith}
 use mathlib.Core.List.{List, [], ◌∷◌, ◌++◌, append-nil}
-use Prim.Native.Nat.{ℕ, zero, suc, ◌<◌}
+use Prim.Native.Nat.{ℕ, zero, suc}
 use Rattle.meaning.specs.Words.{or, at, mem, rows, rows_from}
-use Rattle.meaning.specs.Rows.{NodeColumns, EdgeColumns, Tables, Node, age_table, node_at, nodes_of, node_of, time_of, edges_of}
+use Rattle.meaning.specs.Rows.{NodeColumns, EdgeColumns, Tables, Node, age_table, node_at, nodes_of, node_of, time_of}
 use Rattle.meaning.specs.Answer.{Answer, refuse_row}
 use Rattle.meaning.specs.Check.{edge_shared, mutation_above}
 use Rattle.meaning.specs.Join.{BatchTables, batch_tables, time_in, batch_birth, batch_edge, batch_mutation, batch_rules}

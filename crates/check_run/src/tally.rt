@@ -3,7 +3,7 @@ use check_tables::call::Answer;
 use std::io;
 
 // The line of the input, where the group's title stands in it, and the counts.
-#[derive(Drop)]
+#[derive(Clone, Copy)]
 pub struct Tally {
     pub line: u32,
     pub title: usize,
@@ -91,10 +91,9 @@ pub fn finish(rt: &impl Print, text: &[u8], t: Tally) -> io::Result<()> {
 
 // Ends a group and begins the next one, whose title stands on this line.
 pub fn begin(rt: &impl Print, text: &[u8], from: usize, to: usize, t: Tally) -> io::Result<Tally> {
-    let line = more(t.line);
     finish(rt, text, t)?;
     Ok(Tally {
-        line,
+        line: more(t.line),
         title: std::num::wrapping_add_usize(from, 2),
         title_end: to,
         right: 0,
@@ -111,7 +110,7 @@ fn wrong(rt: &impl Print, line: u32, got: Answer) -> io::Result<()> {
     write(rt, b"\n")
 }
 
-fn same(got: Answer, number: u32, row: u32, state: u32) -> bool {
+fn same(got: &Answer, number: u32, row: u32, state: u32) -> bool {
     if got.number != number as usize {
         return false;
     }
@@ -130,7 +129,7 @@ pub fn judge(
     row: u32,
     state: u32,
 ) -> io::Result<Tally> {
-    if same(got, number, row, state) {
+    if same(&got, number, row, state) {
         return Ok(counted(t, more(t.right)));
     }
     wrong(rt, t.line, got)?;

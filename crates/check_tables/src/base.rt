@@ -8,7 +8,7 @@ use crate::block::Column;
 const LENGTH: u32 = 4096;
 
 // How many rows each table has.
-#[derive(Drop)]
+#[derive(Clone, Copy)]
 pub struct Sizes {
     pub nodes: u32,
     pub edges: u32,

@@ -1,13 +1,13 @@
 -- The groups of a join's rules: 20 and 21 by lengths, and what each group hands on to the next.
 use mathlib.Core.Path.{◌≡◌, refl, sym, ap, ◌∙◌}
 use mathlib.Core.Bool.{Bool, true, false, not}
-use Prim.Native.Nat.{ℕ, ◌+◌, ◌<◌, ◌≤◌}
+use Prim.Native.Nat.{ℕ, ◌+◌, ◌≤◌}
 use native.Mathlib.Omega.{arith}
 use lib.Dec.{eqb, ltb}
 use lib.ListN.{length}
 use borrow.Author.Tests.{eqb-true, ltb-false}
 use Rattle.meaning.specs.Words.{or}
-use Rattle.meaning.specs.Rows.{Tables, NodeColumns, EdgeColumns}
+use Rattle.meaning.specs.Rows.{Tables}
 use Rattle.meaning.specs.Answer.{Answer, done, limits, refuse, accepted, checked_of}
 use Rattle.meaning.specs.Check.{check_then}
 use Rattle.meaning.specs.Join.{BatchTables, batch_shapes, batch_sizes, batch_rules}

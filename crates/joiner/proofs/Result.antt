@@ -6,7 +6,7 @@ use Prim.Native.Nat.{ℕ, ◌+◌, ◌≤◌}
 use native.Mathlib.Omega.{arith}
 use lib.ListN.{length, length-append, length-map}
 use Rattle.meaning.specs.Words.{at, rows, sort, count}
-use Rattle.meaning.specs.Rows.{Tables, NodeColumns, SiteColumns, MutationColumns, EdgeColumns, Node, Site, age_table, births, node_at, nodes_of, sites_of, record_of, tables_of}
+use Rattle.meaning.specs.Rows.{Tables, NodeColumns, SiteColumns, MutationColumns, EdgeColumns, Node, Site, age_table, node_at, nodes_of, sites_of, record_of, tables_of}
 use Rattle.meaning.specs.Answer.{done, limits, accepted, put, left_by}
 use Rattle.meaning.specs.Lent.{cells_by}
 use Rattle.meaning.specs.Join.{BatchTables, batch_of, join, joined}

@@ -115,18 +115,49 @@ fn judged(
     derived: &[u8],
     samples: &[u32],
 ) -> bool {
-    if !held(
-        head, r, time, birth, population, left, right, parent, child, position, ancestral, site,
-        node, derived, samples,
-    ) {
-        return false;
-    }
     match r {
-        ReadAnswer::Refused(_) => true,
-        ReadAnswer::Done { len, rows } => back(
-            bytes, len, rows, time, birth, population, left, right, parent, child, position,
-            ancestral, site, node, derived, samples,
+        ReadAnswer::Refused(x) => held(
+            head,
+            ReadAnswer::Refused(x),
+            time,
+            birth,
+            population,
+            left,
+            right,
+            parent,
+            child,
+            position,
+            ancestral,
+            site,
+            node,
+            derived,
+            samples,
         ),
+        ReadAnswer::Done { len, rows } => {
+            if !held(
+                head,
+                ReadAnswer::Done { len, rows },
+                time,
+                birth,
+                population,
+                left,
+                right,
+                parent,
+                child,
+                position,
+                ancestral,
+                site,
+                node,
+                derived,
+                samples,
+            ) {
+                return false;
+            }
+            back(
+                bytes, len, rows, time, birth, population, left, right, parent, child, position,
+                ancestral, site, node, derived, samples,
+            )
+        }
     }
 }
 

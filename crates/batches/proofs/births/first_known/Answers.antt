@@ -1,7 +1,6 @@
 -- `first_known` meets its contract: no row passed has a number of the base.
 use borrow.Author.Rules.{rules}
 use mathlib.Core.Path.{sym, ◌∙◌}
-use Prim.Native.Nat.{◌-◌}
 use Rattle.laws.specs.Counting.{sought_start, sought_hit, sought_miss, sought_none}
 use Rattle.batches.proofs.births.first_known.Goals as goal
 

@@ -3,7 +3,6 @@ use native.Mathlib.Omega.{arith}
 use borrow.Author.Rules.{rules}
 use mathlib.Core.Path.{◌≡◌}
 use mathlib.Core.List.{◌++◌}
-use Prim.Native.Nat.{◌+◌, ◌-◌}
 use lib.ListN.{length, length-append}
 use Rattle.batches.proofs.Fronts.{front_none, front_more, front_whole}
 use Rattle.batches.proofs.columns.append.Goals as goal

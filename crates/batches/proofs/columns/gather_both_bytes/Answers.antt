@@ -3,7 +3,6 @@ use native.Mathlib.Omega.{arith}
 use borrow.Author.Rules.{rules}
 use mathlib.Core.Path.{◌≡◌, sym, ◌∙◌}
 use mathlib.Core.List.{◌++◌, map}
-use Prim.Native.Nat.{◌-◌}
 use lib.ListN.{length, length-map}
 use Rattle.meaning.specs.Words.{at}
 use Rattle.batches.proofs.Fronts.{front_none, front_more, front_whole, get_map}

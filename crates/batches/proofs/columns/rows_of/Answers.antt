@@ -2,7 +2,6 @@
 use native.Mathlib.Omega.{arith}
 use mathlib.Core.Path.{◌≡◌, sym, ◌∙◌}
 use mathlib.Core.List.{◌++◌, map}
-use Prim.Native.Nat.{◌-◌}
 use lib.ListN.{length, length-map}
 use Rattle.meaning.specs.Words.{index_of}
 use Rattle.laws.specs.Members.{at_map}

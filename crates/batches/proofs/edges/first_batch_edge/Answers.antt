@@ -1,7 +1,6 @@
 -- `first_batch_edge` meets its contract: no edge before the one looked at is broken.
 use borrow.Author.Rules.{rules}
 use mathlib.Core.Path.{sym, ◌∙◌}
-use Prim.Native.Nat.{◌-◌}
 use Rattle.laws.specs.Counting.{sought_start, sought_hit, sought_miss, sought_none}
 use Rattle.batches.proofs.edges.first_batch_edge.Goals as goal
 

@@ -1,7 +1,6 @@
 -- `first_batch_mutation` meets its contract: no mutation before the one looked at is broken.
 use borrow.Author.Rules.{rules}
 use mathlib.Core.Path.{sym, ◌∙◌}
-use Prim.Native.Nat.{◌-◌}
 use Rattle.laws.specs.Counting.{sought_start, sought_hit, sought_miss, sought_none}
 use Rattle.batches.proofs.mutations.first_batch_mutation.Goals as goal
 

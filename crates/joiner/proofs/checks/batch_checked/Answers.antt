@@ -4,7 +4,6 @@ use lib.ListN.{length}
 use Rattle.meaning.specs.Rows.{age_table}
 use Rattle.batches.specs.Asked.{read_base}
 use Rattle.joiner.proofs.Groups.{lengths_stop, lengths_go_on, batch_asked}
-use lib.Seq.{length_front}
 use Rattle.checker.proofs.Handing.{front_fits, front_long, front_ranked}
 use Rattle.joiner.proofs.Orders.{refusal_unordered, ranked_ordered, asked_few}
 use Rattle.joiner.proofs.checks.batch_checked.Goals as goal
