@@ -7,8 +7,7 @@ use Rattle.std.proofs.Math.Seq.{ext_get_or}
 use Rattle.meaning.specs.Words.{at, rows}
 use Rattle.laws.specs.Counting.{length_rows, get_rows}
 use Rattle.runs.specs.declared.Segment.{Segment}
-use Rattle.meaning.specs.Clean.{no_row}
-use Rattle.segments.specs.Search.{seg_at, no_segment, covers, row_at, Onward, onward_next, row_found, row_missing}
+use Rattle.segments.specs.Search.{seg_at, no_segment, covers, row_at, Onward, onward_next, row_found}
 
 -- the number of cells of the shortest of three columns
 abbrev pub shortest : List ℕ → List ℕ → List ℕ → ℕ
@@ -48,9 +47,6 @@ module _ (ls rs ws : List ℕ) where
 
     pub column_found : (i : ℕ) → i < shortest ls rs ws → Onward S x i → covers (at ls i) (at rs i) x ≡ true → at ws i ≡ row_at S x
     column_found i h s e = ap (λ (s : Segment). s.row) (sym (segment_at i h)) ∙ row_found S x i (inside i h) s (sym (test_is i h) ∙ e)
-
-    pub column_missing : (i : ℕ) → i ≤ shortest ls rs ws → shortest ls rs ws ≤ i → Onward S x i → no_row ≡ row_at S x
-    column_missing i h k s = row_missing S x i (omega (arith, length_segments)) (omega (arith, length_segments)) s
 
 -- ---- the columns of a list of segments make that list again
 -- a segment of zeros, with which cells past the end are read

@@ -4,7 +4,8 @@ use mathlib.Core.Path.{sym, ap, ◌∙◌}
 use Prim.Native.Nat.{ℕ, min, ◌-◌}
 use lib.ListN.{length}
 use Rattle.segments.specs.Search.{onward_start}
-use Rattle.segments.specs.Columns.{column_next, column_found, column_missing}
+use Rattle.segments.specs.Columns.{column_next, column_found}
+use Rattle.segments.proofs.Columns.{column_missing}
 use Rattle.segments.proofs.find_in_columns.Goals as goal
 
 pub loop-i-init : goal.loop-i-init
