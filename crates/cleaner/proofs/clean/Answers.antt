@@ -1,0 +1,67 @@
+-- `cleaner::clean` meets its contract: the check's refusal, or the cleaning of sound tables.
+use mathlib.Core.Path.{sym, ◌∙◌}
+use Prim.Native.Nat.{ℕ}
+use lib.ListN.{length-replicate}
+use Rattle.cleaner.proofs.Calling.{grounded, births_room, call_refused, call_done}
+use native.Mathlib.Omega.{arith}
+use Rattle.cleaner.proofs.clean.Goals as goal
+
+pub check_all_lent-requires : goal.check_all_lent-requires
+check_all_lent-requires c = (length-replicate {A = ℕ} 4096 0, length-replicate {A = ℕ} 1024 0)
+
+pub slice_bounds-clean_sound-end : goal.slice_bounds-clean_sound-end
+slice_bounds-clean_sound-end c = sym (c.check_all_lent.auto.by_child ∙ length-replicate {A = ℕ} 4096 0)
+
+pub slice_bounds-by_birth-end : goal.slice_bounds-by_birth-end
+slice_bounds-by_birth-end c = births_room _ _ _ _ c.check_all_lent.ensures.0 c.in-Sound.is c.check_all_lent.new.by_birth _ (length-replicate {A = ℕ} 1024 0) c.check_all_lent.auto.by_birth
+
+pub slice_bounds-clean_sound-end-in-Sound : goal.slice_bounds-clean_sound-end-in-Sound
+slice_bounds-clean_sound-end-in-Sound c = sym (c.check_all_lent.ensures.1.births c.in-Sound.is).long
+
+pub clean_sound-requires : goal.clean_sound-requires
+clean_sound-requires c = (grounded _ _ _ _ c.check_all_lent.ensures.0 c.in-Sound.is (λ i l. omega (arith, c.type_inv.time i)), c.check_all_lent.ensures.1.births c.in-Sound.is, c.check_all_lent.auto.by_child ∙ length-replicate {A = ℕ} 4096 0)
+
+pub returns-in-Refused : goal.returns-in-Refused
+returns-in-Refused c = call_refused _ _ _ _ c.check_all_lent.ensures.0 _ _ _ _ c.in-Refused.is
+
+pub shape_of-out_time : goal.shape_of-out_time
+shape_of-out_time c = c.clean_sound.auto.out_time
+
+pub shape_of-out_birth : goal.shape_of-out_birth
+shape_of-out_birth c = c.clean_sound.auto.out_birth
+
+pub shape_of-out_population : goal.shape_of-out_population
+shape_of-out_population c = c.clean_sound.auto.out_population
+
+pub shape_of-out_left : goal.shape_of-out_left
+shape_of-out_left c = c.clean_sound.auto.out_left
+
+pub shape_of-out_right : goal.shape_of-out_right
+shape_of-out_right c = c.clean_sound.auto.out_right
+
+pub shape_of-out_parent : goal.shape_of-out_parent
+shape_of-out_parent c = c.clean_sound.auto.out_parent
+
+pub shape_of-out_child : goal.shape_of-out_child
+shape_of-out_child c = c.clean_sound.auto.out_child
+
+pub shape_of-out_position : goal.shape_of-out_position
+shape_of-out_position c = c.clean_sound.auto.out_position
+
+pub shape_of-out_ancestral : goal.shape_of-out_ancestral
+shape_of-out_ancestral c = c.clean_sound.auto.out_ancestral
+
+pub shape_of-out_site : goal.shape_of-out_site
+shape_of-out_site c = c.clean_sound.auto.out_site
+
+pub shape_of-out_node : goal.shape_of-out_node
+shape_of-out_node c = c.clean_sound.auto.out_node
+
+pub shape_of-out_derived : goal.shape_of-out_derived
+shape_of-out_derived c = c.clean_sound.auto.out_derived
+
+pub shape_of-out_map : goal.shape_of-out_map
+shape_of-out_map c = c.clean_sound.auto.out_map
+
+pub returns-in-Sound : goal.returns-in-Sound
+returns-in-Sound c = call_done _ _ _ _ c.check_all_lent.ensures.0 _ _ _ c.in-Sound.is _ c.clean_sound.ensures

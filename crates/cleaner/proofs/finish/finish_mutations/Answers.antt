@@ -1,0 +1,23 @@
+-- `cleaner::finish::finish_mutations` meets its contract: the states are read before the rows become sites.
+use Rattle.cleaner.proofs.finish.finish_mutations.Goals as goal
+
+pub gather_states-requires : goal.gather_states-requires
+gather_states-requires c = (c.requires.0, c.requires.2, c.requires.3)
+
+pub rename-requires : goal.rename-requires
+rename-requires c = c.requires.0
+
+pub rename-requires-2 : goal.rename-requires-2
+rename-requires-2 c = c.requires.1
+
+pub shape_of-out_site : goal.shape_of-out_site
+shape_of-out_site c = c.rename.auto.col
+
+pub shape_of-out_node : goal.shape_of-out_node
+shape_of-out_node c = c.rename-2.auto.col
+
+pub shape_of-out_derived : goal.shape_of-out_derived
+shape_of-out_derived c = c.gather_states.auto.out
+
+pub returns : goal.returns
+returns c = record { sites = c.rename.ensures; nodes = c.rename-2.ensures; states = c.gather_states.ensures }

@@ -1,0 +1,10 @@
+-- `cleaner::store::write_nodes` meets its contract: one column after the other.
+use Rattle.cleaner.proofs.Storing.{inside_more}
+use native.Mathlib.Omega.{arith}
+use Rattle.cleaner.proofs.store.write_nodes.Goals as goal
+
+pub gather-requires-2 : goal.gather-requires-2
+gather-requires-2 c = (c.requires.0, c.requires.2, inside_more (omega (arith, c.requires.5)) c.requires.4)
+
+pub gather_populations-requires : goal.gather_populations-requires
+gather_populations-requires c = (c.requires.0, c.requires.3, inside_more (omega (arith, c.requires.6)) c.requires.4)

@@ -1,0 +1,10 @@
+-- `cleaner::store::write_sites` meets its contract: one column after the other.
+use mathlib.Core.Path.{ap, ◌∙◌}
+use lib.ListN.{length}
+use lib.Seq.{take-length, take_all}
+use Rattle.meaning.specs.Answer.{put}
+use native.Mathlib.Omega.{arith}
+use Rattle.cleaner.proofs.store.write_sites.Goals as goal
+
+pub returns : goal.returns
+returns c = (c.copy.ensures ∙ ap (λ z. put z c.args.out_position.now) (take-length c.args.position.now), c.copy_states.ensures ∙ ap (λ z. put z c.args.out_ancestral.now) (take_all (length c.args.position.now) c.args.ancestral.now (omega (arith, c.requires.0))))

@@ -1,0 +1,12 @@
+-- `ffr::alleles::ffr_alleles_v2` meets its contract: a refusal packed, or 0.
+use Rattle.ffr.proofs.Panels.{row_small, call_refused, call_done}
+use Rattle.ffr.proofs.alleles.ffr_alleles_v2.Goals as goal
+
+pub pack-requires : goal.pack-requires
+pack-requires c = row_small _ _ _ _ _ _ _ _ _ c.alleles.ensures c.in-Refused.is
+
+pub returns-in-Refused : goal.returns-in-Refused
+returns-in-Refused c = call_refused _ _ _ _ _ _ _ _ _ c.alleles.ensures c.in-Refused.is c.pack.ensures
+
+pub returns-in-Done : goal.returns-in-Done
+returns-in-Done c = call_done _ _ _ _ _ _ _ _ _ c.alleles.ensures c.in-Done.is

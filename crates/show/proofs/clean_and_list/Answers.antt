@@ -1,0 +1,51 @@
+-- `show::clean_and_list` meets its contract: the cleaning's line or its listing, whose rows keep to the limits. Assumes nothing.
+use mathlib.Core.Path.{◌≡◌, sym, ap, ◌∙◌}
+use mathlib.Core.List.{List}
+use Prim.Native.Nat.{ℕ}
+use lib.ListN.{length}
+use Rattle.meaning.specs.Words.{zeros}
+use Rattle.meaning.specs.Rows.{Tables}
+use Rattle.meaning.specs.Forest.{stands}
+use Rattle.meaning.specs.Answer.{done, limits, stored_limits}
+use Rattle.meaning.specs.Lent.{Counts, no_rows_written}
+use Rattle.meaning.specs.Clean.{outcome_of, cleaning}
+use Rattle.meaning.specs.declared.Tabled.{Tabled}
+use Rattle.meaning.specs.Shown.{blank}
+use Rattle.show.proofs.Printing.{printed_as, clean_listed, clean_refused}
+use Rattle.show.proofs.Keeping.{Listable, clean_listable, listing_room}
+use native.Mathlib.Omega.{arith}
+use Rattle.show.proofs.clean_and_list.Goals as goal
+
+pub list_rows-requires : goal.list_rows-requires
+unfolding blank zeros
+list_rows-requires c = let L : ℕ = c.args.len in
+    let T : Tables = record { nodes = record { time = c.args.time.now; birth = c.args.birth.now; population = c.args.population.now }; edges = record { left = c.args.left.now; right = c.args.right.now; parent = c.args.parent.now; child = c.args.child.now }; sites = record { position = c.args.position.now; ancestral = c.args.ancestral.now }; muts = record { site = c.args.site.now; node = c.args.node.now; derived = c.args.derived.now } } in
+    let S : List ℕ = c.args.samples.now in
+    let cells : Tables = record { nodes = record { time = c.clean-answer.new.out_time; birth = c.clean-answer.new.out_birth; population = c.clean-answer.new.out_population }; edges = record { left = c.clean-answer.new.out_left; right = c.clean-answer.new.out_right; parent = c.clean-answer.new.out_parent; child = c.clean-answer.new.out_child }; sites = record { position = c.clean-answer.new.out_position; ancestral = c.clean-answer.new.out_ancestral }; muts = record { site = c.clean-answer.new.out_site; node = c.clean-answer.new.out_node; derived = c.clean-answer.new.out_derived } } in
+    let nodemap : List ℕ = c.clean-answer.new.out_map in
+    let n : Counts = record { nodes = c.in-Done.nodes; edges = c.in-Done.edges; sites = c.in-Done.sites; mutations = c.in-Done.mutations } in
+    let e : record { answer = done; counts = n; cells = cells; map = nodemap } ≡ cleaning stands limits L T S blank (zeros stored_limits.nodes) 4 = ap (λ (a : Tabled). outcome_of a cells nodemap) (sym c.in-Done.is) ∙ c.clean-answer.ensures in
+    let f : Listable n cells (length T.nodes.birth) nodemap = clean_listable L T S blank (zeros stored_limits.nodes) n cells nodemap e in
+    (f.long, f.rows_long, listing_room n (length T.nodes.birth) (length c.args.out.now) f.few f.rows_few c.requires)
+
+pub refused-requires : goal.refused-requires
+refused-requires c = omega (arith, c.requires)
+
+pub returns-in-Done : goal.returns-in-Done
+unfolding blank zeros
+returns-in-Done c = let L : ℕ = c.args.len in
+    let T : Tables = record { nodes = record { time = c.args.time.now; birth = c.args.birth.now; population = c.args.population.now }; edges = record { left = c.args.left.now; right = c.args.right.now; parent = c.args.parent.now; child = c.args.child.now }; sites = record { position = c.args.position.now; ancestral = c.args.ancestral.now }; muts = record { site = c.args.site.now; node = c.args.node.now; derived = c.args.derived.now } } in
+    let S : List ℕ = c.args.samples.now in
+    let cells : Tables = record { nodes = record { time = c.clean-answer.new.out_time; birth = c.clean-answer.new.out_birth; population = c.clean-answer.new.out_population }; edges = record { left = c.clean-answer.new.out_left; right = c.clean-answer.new.out_right; parent = c.clean-answer.new.out_parent; child = c.clean-answer.new.out_child }; sites = record { position = c.clean-answer.new.out_position; ancestral = c.clean-answer.new.out_ancestral }; muts = record { site = c.clean-answer.new.out_site; node = c.clean-answer.new.out_node; derived = c.clean-answer.new.out_derived } } in
+    let nodemap : List ℕ = c.clean-answer.new.out_map in
+    let n : Counts = record { nodes = c.in-Done.nodes; edges = c.in-Done.edges; sites = c.in-Done.sites; mutations = c.in-Done.mutations } in
+    printed_as (clean_listed L T S n cells nodemap (ap (λ (a : Tabled). outcome_of a cells nodemap) (sym c.in-Done.is) ∙ c.clean-answer.ensures)) c.list_rows.ensures
+
+pub returns-in-Refused : goal.returns-in-Refused
+unfolding blank zeros
+returns-in-Refused c = let L : ℕ = c.args.len in
+    let T : Tables = record { nodes = record { time = c.args.time.now; birth = c.args.birth.now; population = c.args.population.now }; edges = record { left = c.args.left.now; right = c.args.right.now; parent = c.args.parent.now; child = c.args.child.now }; sites = record { position = c.args.position.now; ancestral = c.args.ancestral.now }; muts = record { site = c.args.site.now; node = c.args.node.now; derived = c.args.derived.now } } in
+    let S : List ℕ = c.args.samples.now in
+    let cells : Tables = record { nodes = record { time = c.clean-answer.new.out_time; birth = c.clean-answer.new.out_birth; population = c.clean-answer.new.out_population }; edges = record { left = c.clean-answer.new.out_left; right = c.clean-answer.new.out_right; parent = c.clean-answer.new.out_parent; child = c.clean-answer.new.out_child }; sites = record { position = c.clean-answer.new.out_position; ancestral = c.clean-answer.new.out_ancestral }; muts = record { site = c.clean-answer.new.out_site; node = c.clean-answer.new.out_node; derived = c.clean-answer.new.out_derived } } in
+    let nodemap : List ℕ = c.clean-answer.new.out_map in
+    printed_as (clean_refused L T S no_rows_written cells nodemap c.in-Refused.x (ap (λ (a : Tabled). outcome_of a cells nodemap) (sym c.in-Refused.is) ∙ c.clean-answer.ensures)) c.refused.ensures
