@@ -39,8 +39,6 @@ use Rattle.results.specs.Stocks as stocks
 use Rattle.results.specs.Stocks.{Alike, AlikeJoined, AlikeCalled, AlikeJoinCalled}
 use Rattle.demands.specs.First as first
 use Rattle.demands.specs.Listed.{file_shown}
-use Rattle.demands.specs.Histories.{Lent, LentJoin, Call, joins, cleans, tidied, untouched, NotRefused}
-use Rattle.demands.specs.Third.{YoungBatches, last_tables_equal}
 
 -- ---- 1. "The cleaner, the join and the file reader take every input there is .. a refusal gives its number and its row, and no cell of ours is altered."
 -- That every input is taken, with no crash and no endless run, is what the checker proves of every function of the code.
@@ -239,16 +237,7 @@ listing_is_cleaning = file_shown
 -- This holds if no call is refused, and if each cleaning lists every fish then in the record that a later batch or a later sample list names."
 -- Calls from C are in it: each call says how many cells its block has, and one that is not refused has four or more.
 
-pub demand_3 : (m : Limits) (L : ℕ) (calls : List Call) (last : List ℕ) (lent_tidied lent_untouched : Lent) (start : Tables) → Young start.nodes → YoungBatches calls →
-    NotRefused stands m L calls last lent_tidied lent_untouched start start →
-    cleaned stands L (tidied stands m L calls start) last ≡ cleaned stands L (untouched stands m L calls start) last
-demand_3 m L = last_tables_equal stands stands_profile m L
-
--- the same for one cleaning before one batch: S lists every fish of the record that the batch or the last list names
-pub one_step : (m : Limits) (L : ℕ) (T : Tables) (B : BatchTables) (S last : List ℕ) (lent : Lent) (join_tidied join_untouched : LentJoin) (lent_tidied lent_untouched : Lent) → Young T.nodes → Young B.nodes →
-    NotRefused stands m L (cleans S lent ∷ joins B join_tidied join_untouched ∷ []) last lent_tidied lent_untouched T T →
-    cleaned stands L (joined L (cleaned stands L T S) B) last ≡ cleaned stands L (joined L T B) last
-one_step m L T B S last lent o p q r y z a = demand_3 m L (cleans S lent ∷ joins B o p ∷ []) last q r T y (z, Prim.tt) a
+-- `demand_3` and `one_step` say it; they stand in proofs/DemandThree.
 
 -- a block of four or more cells changes nothing but itself
 pub clean_block_changes_nothing : (m : Limits) (L : ℕ) (T : Tables) (S : List ℕ) (out : Tables) (out_map : List ℕ) (cells : ℕ) → 4 ≤ cells → cleaning stands m L T S out out_map cells ≡ cleaning stands m L T S out out_map 4

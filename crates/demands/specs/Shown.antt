@@ -1,20 +1,15 @@
 -- Demand 3 is not empty, and its premise is needed: two proved cases on 01's listing; and cleaning can isolate a fish.
-use Rattle.std.specs.Prelude.{◌≡◌, Bool, true, false, ◌⊎◌, ℕ, replicate}
+use Rattle.std.specs.Prelude.{◌≡◌, ℕ, replicate}
 use Rattle.std.proofs.Math.Path.{refl}
 use mathlib.Core.List.{List, [], ◌∷◌}
-use Rattle.std.proofs.Common.{inl, inr, arith}
-use Rattle.std.proofs.Math.Logic.{⊎_elim}
-use Rattle.meaning.specs.Words.{mem}
 use Rattle.meaning.specs.Rows.{Tables}
 use Rattle.meaning.specs.Forest.{stands}
 use Rattle.meaning.specs.Answer.{limits, done, given, absent}
 use Rattle.meaning.specs.Clean.{cleaned, clean_answer}
 use Rattle.meaning.specs.Allele.{allele}
-use Rattle.meaning.specs.Join.{BatchTables, joined, join_answer}
+use Rattle.meaning.specs.Join.{BatchTables}
 use Rattle.meaning.specs.Listing.{listing}
-use Rattle.laws.specs.Bools.{clash}
-use Rattle.laws.specs.Members.{mem_cases, mem_nil}
-use Rattle.demands.specs.Histories.{Lent, LentJoin, Call, joins, cleans, Names, as_parent, as_child, as_mutated, NamedLater, tidied, untouched, NotRefused}
+use Rattle.demands.specs.Histories.{Lent, LentJoin, Call, joins, cleans}
 
 -- room for 16 rows in every table
 abbrev cells : List ℕ
@@ -52,39 +47,6 @@ story = cleans listed lent ∷ joins spawn lent_join lent_join ∷ []
 
 abbrev pub last : List ℕ
 last = 601 ∷ 602 ∷ 501 ∷ []
-
--- no number of the list but these is a fish of the listing
-only : (b : ℕ) → mem b listing.nodes.birth ≡ true → NamedLater (joins spawn lent_join lent_join ∷ []) last b → mem b listed ≡ true
-only b m (inl (as_parent h)) = ⊎_elim
-    (λ (e : b ≡ 401). rw e (unfold mem in refl))
-    (λ (h : mem b (401 ∷ 301 ∷ []) ≡ true). ⊎_elim
-    (λ (e : b ≡ 401). rw e (unfold mem in refl))
-    (λ (h : mem b (301 ∷ []) ≡ true). ⊎_elim (λ (e : b ≡ 301). rw e (unfold mem in refl)) (λ (h : mem b [] ≡ true). absurd (mem_nil b h)) (mem_cases b 301 [] h))
-    (mem_cases b 401 (301 ∷ []) h))
-    (mem_cases b 401 (401 ∷ 301 ∷ []) h)
-only b m (inl (as_child h)) = ⊎_elim
-    (λ (e : b ≡ 601). absurd (clash m (rw e (unfold mem in refl))))
-    (λ (h : mem b (602 ∷ 602 ∷ []) ≡ true). ⊎_elim
-    (λ (e : b ≡ 602). absurd (clash m (rw e (unfold mem in refl))))
-    (λ (h : mem b (602 ∷ []) ≡ true). ⊎_elim (λ (e : b ≡ 602). absurd (clash m (rw e (unfold mem in refl)))) (λ (h : mem b [] ≡ true). absurd (mem_nil b h)) (mem_cases b 602 [] h))
-    (mem_cases b 602 (602 ∷ []) h))
-    (mem_cases b 601 (602 ∷ 602 ∷ []) h)
-only b m (inl (as_mutated h)) = ⊎_elim (λ (e : b ≡ 601). absurd (clash m (rw e (unfold mem in refl)))) (λ (h : mem b [] ≡ true). absurd (mem_nil b h)) (mem_cases b 601 [] h)
-only b m (inr h) = ⊎_elim
-    (λ (e : b ≡ 601). absurd (clash m (rw e (unfold mem in refl))))
-    (λ (h : mem b (602 ∷ 501 ∷ []) ≡ true). ⊎_elim
-    (λ (e : b ≡ 602). absurd (clash m (rw e (unfold mem in refl))))
-    (λ (h : mem b (501 ∷ []) ≡ true). ⊎_elim (λ (e : b ≡ 501). rw e (unfold mem in refl)) (λ (h : mem b [] ≡ true). absurd (mem_nil b h)) (mem_cases b 501 [] h))
-    (mem_cases b 602 (501 ∷ []) h))
-    (mem_cases b 601 (602 ∷ 501 ∷ []) h)
-
--- the story satisfies every premise of demand 3
-pub not_empty : NotRefused stands limits 10 story last lent lent listing listing
-not_empty = (
-  unfold clean_answer stands in refl,
-  only,
-  (unfold join_answer cleaned stands in refl, unfold join_answer in refl, (unfold clean_answer joined cleaned stands in refl, unfold clean_answer joined stands in refl)),
-)
 
 -- "Clean the listing's input with 501, 502, then its output with 401, 501: the edge is (4,6); from the raw input it is (0,10)."
 pub record PremiseNeeded : Type 0 where

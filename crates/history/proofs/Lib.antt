@@ -1,0 +1,3 @@
+-- Demand 3 proved.
+pub mod Run
+pub mod Calls
