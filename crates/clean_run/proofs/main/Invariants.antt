@@ -1,0 +1,13 @@
+-- `clean_run::main` is safe and ends: the turns fall, and cases and turns together stay within their start. Assumes nothing.
+<<<<<<< HEAD
+use Rattle.std.proofs.Common.{◌+◌, ◌≤◌}
+=======
+use Prim.Native.Nat.{◌+◌, ◌≤◌}
+>>>>>>> 4817dda9b3f9c5103fdac3f1dd0029ab64172543
+use Rattle.clean_run.proofs.main.Given as goal
+
+abbrev pub invariant-loop-turns : goal.invariant-loop-turns
+invariant-loop-turns l = (l.cases ≤ l.all) × (l.all + l.turns ≤ 100000) × (l.differ ≤ l.cases) × (l.all_differ ≤ l.all)
+
+abbrev pub decreases-loop-turns : goal.decreases-loop-turns
+decreases-loop-turns l = l.turns
