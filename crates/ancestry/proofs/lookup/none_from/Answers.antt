@@ -4,10 +4,10 @@ use native.Mathlib.Omega.{arith}
 use Rattle.ancestry.proofs.lookup.none_from.Goals as goal
 
 pub cell_at-requires : goal.cell_at-requires
-cell_at-requires c = (omega (arith, c.requires.inside, c.if-place-to.true), c.requires.row _ (omega arith) (omega (arith, c.if-place-to.true)))
+cell_at-requires c = (omega (arith, c.requires.inside), c.requires.row _ (omega arith) (omega arith))
 
 pub returns-then-place-to : goal.returns-then-place-to
-returns-then-place-to c = none_next _ _ _ _ _ c.cell_at.ensures (omega (arith, c.if-place-to.true))
+returns-then-place-to c = none_next _ _ _ _ _ c.cell_at.ensures (omega arith)
 
 pub returns : goal.returns
-returns c = none_over _ _ _ _ _ c.if-place-to.false
+returns c = none_over _ _ _ _ _ (omega arith)

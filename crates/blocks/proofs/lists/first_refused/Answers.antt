@@ -1,6 +1,7 @@
 -- `lists::first_refused` meets its contract: cell by cell of the first fish, then fish by fish.
 use mathlib.Core.Path.{◌∙◌, sym}
 use native.Mathlib.Omega.{arith}
+use borrow.Author.Rules.{rules}
 use Rattle.laws.specs.Bools.{not_of}
 use Rattle.blocks.specs.Lists.{at_first_site, at_first_fish}
 use Rattle.blocks.proofs.Searching.{some_site_missing, some_fish_unknown, all_there}
@@ -28,4 +29,4 @@ pub returns-then-fish_unknown : goal.returns-then-fish_unknown
 returns-then-fish_unknown c = some_fish_unknown _ _ _ _ c.requires.1 (sym c.some_no_site-site_missing.ensures ∙ c.if-site_missing.false) (sym c.some_unknown-fish_unknown.ensures ∙ c.if-fish_unknown.true)
 
 pub returns : goal.returns
-returns c = all_there _ _ _ _ (sym c.some_no_site-site_missing.ensures ∙ c.if-site_missing.false) (sym c.some_unknown-fish_unknown.ensures ∙ c.if-fish_unknown.false)
+returns c = all_there _ _ _ _ (sym c.some_no_site-site_missing.ensures ∙ search rules) (sym c.some_unknown-fish_unknown.ensures ∙ c.if-fish_unknown.false)
