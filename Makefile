@@ -85,7 +85,7 @@ $(OUT)/%.o: cpp/%.cpp $(HEADERS) Makefile | $(OUT)
 	$(COMPILE) -c $< -o $@
 
 $(OUT)/test_calls: $(SOURCES:cpp/%.cpp=$(OUT)/%.o) $(CALLS)
-	$(CXX) $(CXXFLAGS) -pthread $(sort $^) -o $@
+	$(CXX) $(CXXFLAGS) -pthread $(sort $(filter %.o,$^)) $(filter %.a,$^) -o $@
 
 $(OUT)/test_c.o: cpp/test_c.c include/ffridwelan.h Makefile | $(OUT)
 	$(CC) -std=c99 $(STRICT) $(CFLAGS) -Iinclude -c $< -o $@

@@ -1,5 +1,5 @@
 -- `join_run::main` is safe and ends: the turns fall, and cases and turns together stay within their start. Assumes nothing.
-use Prim.Native.Nat.{◌+◌, ◌≤◌}
+use Rattle.std.proofs.Common.{◌+◌, ◌≤◌}
 use Rattle.join_run.proofs.main.Given as goal
 
 abbrev pub invariant-loop-turns : goal.invariant-loop-turns
