@@ -28,7 +28,7 @@ module _ (L : ℕ) (T : Tables) (S : List ℕ) (c : Checked) (e : checked_of c �
   unfolding check
   found = e
 
-  -- tables that the check does not refuse are footing to clean on
+  -- tables that the check does not refuse are ground to clean on
   pub grounded : c ≡ checked.Sound → ((i : ℕ) → i < length T.nodes.time → at T.nodes.time i < Ages) → Ground limits L T S
   unfolding check
   grounded q y = let k : _ = check_tells limits L T S (was_sound (check_all_then limits L T S) hand c found q) in record { sound = k.sound; listed = k.listed; young = y }

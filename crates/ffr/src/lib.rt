@@ -3,7 +3,7 @@
 
 #![tactic(auto)]
 
-pub mod alleles;
 pub mod clean;
+pub mod genotypes;
 pub mod join;
 mod pack;

@@ -1,6 +1,6 @@
 -- `ffr::alleles::ffr_alleles_v2` meets its contract: a refusal packed, or 0.
 use Rattle.ffr.proofs.Panels.{row_small, call_refused, call_done}
-use Rattle.ffr.proofs.alleles.ffr_alleles_v2.Goals as goal
+use Rattle.ffr.proofs.genotypes.ffr_alleles_v2.Goals as goal
 
 pub pack-requires : goal.pack-requires
 pack-requires c = row_small _ _ _ _ _ _ _ _ _ c.alleles.ensures c.in-Refused.is
