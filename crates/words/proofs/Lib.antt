@@ -1,0 +1,2 @@
+-- Laws of a column that is filled row by row.
+pub mod Giving
