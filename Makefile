@@ -1,6 +1,7 @@
 # The calls from C: archive, tests, example, installation. The proofs and the other tests are run by rt (README.md).
 #
 #   make archive             prove crate ffr and write crates/ffr/out/libffr.a
+#   make segments            prove crate segments_c and write target/libsegments.a (ffr_find_segment)
 #   make ctest               the calls compared with a second implementation, from C++ and C; no caller of the first interface can be built
 #   make example             a breeding run by the calls, listed by the program ffridwelan, the alleles of its last fish, the stocks
 #   make faults              that the tests see planted faults
@@ -52,7 +53,7 @@ else
 CALLS := $(ARCHIVE)
 endif
 
-.PHONY: bench archive attacks ctest example faults sanitize valgrind install clean-cpp FORCE
+.PHONY: bench archive segments attacks ctest example faults sanitize valgrind install clean-cpp FORCE
 
 archive: $(ARCHIVE)
 
@@ -72,6 +73,11 @@ target/made/%: FORCE
 $(ARCHIVE): target/made/ffr
 	cd crates/ffr && rt lib
 	@touch $@
+
+# The search among segments, an archive of its own.
+segments: target/made/segments_c
+	cd crates/segments_c && rt lib
+	cp crates/segments_c/out/libsegments_c.a target/libsegments.a
 
 # Proved, built, and run once on nothing.
 $(LISTER): target/made/ffridwelan

@@ -1,7 +1,7 @@
 // Prints how long the check and the allele call take at a quarter of the limits, at half of them and at the limits, on the worst
 // shapes: a line of nodes, and all edges of one child, each with all mutations on one site, and a line with a mutation at each site.
 //
-// Run it with an argument: target/bin/check_bench now. Without one it only says so, since times change from run to run.
+// Run it with an argument: out/check_bench now. Without one it only says so, since times change from run to run.
 
 #![tactic(auto)]
 

@@ -1,0 +1,16 @@
+// The search among segments as a static library, for C.
+
+#![tactic(auto)]
+
+ghost use Rattle.std.specs.Prelude.{◌≡◌};
+ghost use Rattle.segments.specs.Search.{row_at};
+
+use runs::Segment;
+
+// The output row of the first segment that holds x, called from C with a pointer to the segments and their number.
+#[unsafe(no_mangle)]
+pub extern "C" fn ffr_find_segment(s: &[Segment], x: u32) -> u32
+    ensures { result ≡ row_at s.now x }
+{
+    segments::find(s, x)
+}
