@@ -106,7 +106,7 @@ pub fn first_batch_above(
     ensures { result
         ≡ lowest (mutation_above (edges_of (at basebirth.now)
         (edge_table baseleft.now baseright.now baseparent.now basechild.now) ++ edges_of (λ b. b)
-        (edge_table left.now right.now parent.now child.now)) position.now (λ b. b) (record { site = site.entry.now; node = node.now; derived = [] })) (length site.entry.now) }
+        (edge_table left.now right.now parent.now child.now)) position.now (λ b. b) (record { site = site.now; node = node.now; derived = [] })) (length site.now) }
 {
     let mut alltime = [0u32; NodeTable::MOST];
     let mut parentrow = [0u32; EdgeTable::MOST];

@@ -72,10 +72,10 @@ pub fn write_lists(
     ensures { ListsWritten
         (cleaned stands len
         (record {
-          nodes = record { time = time.entry.now; birth = birth.now; population = population.now };
-          edges = record { left = left.entry.now; right = right.now; parent = parent.now; child = child.now };
-          sites = record { position = position.entry.now; ancestral = ancestral.now };
-          muts = record { site = site.entry.now; node = node.now; derived = derived.now };
+          nodes = record { time = time.now; birth = birth.now; population = population.now };
+          edges = record { left = left.now; right = right.now; parent = parent.now; child = child.now };
+          sites = record { position = position.now; ancestral = ancestral.now };
+          muts = record { site = site.now; node = node.now; derived = derived.now };
         })
         samples.now)
         (record {

@@ -65,20 +65,20 @@ fn work(
         (record {
           nodes = node_table time.now birth.now P;
           edges = edge_table left.now right.now parent.now child.now;
-          sites = record { position = position.entry.now; ancestral = A };
-          muts = record { site = site.entry.now; node = node.now; derived = D };
+          sites = record { position = position.now; ancestral = A };
+          muts = record { site = site.now; node = node.now; derived = D };
         })
         samples.now →
         Ready len
         (record {
           nodes = node_table time.now birth.now P;
           edges = edge_table left.now right.now parent.now child.now;
-          sites = record { position = position.entry.now; ancestral = A };
-          muts = record { site = site.entry.now; node = node.now; derived = D };
+          sites = record { position = position.now; ancestral = A };
+          muts = record { site = site.now; node = node.now; derived = D };
         })
         samples.now
         (record {
-          kept = kept.exit.now;
+          kept = kept.new;
           nodes = result.nodes;
           places = places.new;
           sample = sample.new;
