@@ -1,12 +1,13 @@
 -- Rows counted from 0: some row below n, the lowest row, the rows made by a function.
-use Rattle.std.specs.Prelude.{◌≡◌, Bool, List, [], ◌∷◌, ◌++◌, map, ◌⊎◌, length, get_or}
+use Rattle.std.specs.Prelude.{◌≡◌, Bool, List, [], ◌∷◌, ◌++◌, map, ◌⊎◌, ltb, length, get_or, Option, Some, None, MatchOption}
 use Rattle.std.proofs.Math.Path.{refl, ap}
 use Rattle.std.proofs.Common.{sym, ap₂, ◌∙◌, inl, inr, ext_get_or}
 use Rattle.std.proofs.Math.Bool.{true, false}
 use Rattle.std.proofs.Math.Logic.{⊎_elim}
 use Prim.Native.Nat.{ℕ, zero, suc, ◌+◌, ◌-◌, ◌<◌, ◌≤◌}
+use Rattle.std.proofs.lemmas.Bool.{ltb-true, ltb-false, lt-ltb, le-ltb}
 use native.Mathlib.Omega.{arith}
-use Rattle.meaning.specs.Words.{at, any, any_below, lowest, lowest_from, rows, rows_from}
+use Rattle.meaning.specs.Words.{at, any, any_below, lowest, lowest_from, lowest_row, row_below, rows, rows_from}
 use Rattle.laws.specs.Bools.{clash, truth, eq?, bool_ext}
 
 -- ---- some row below n
@@ -39,6 +40,39 @@ module _ (f : ℕ → Bool) where
       go : (t : Bool) → f n ≡ t → (x < n → any_below f n ≡ true) → any_below f (suc n) ≡ true
       go true e ih = below_hit n e
       go false e ih = below_miss n e ∙ ih (⊎_elim (λ (q : x ≡ n). absurd (clash (rw q at h) e)) (λ (q : x ≡ n → ⊥). omega arith) (eq? x n))
+
+-- ---- a row where it is below n, and else none
+
+pub row_some : {n r : ℕ} → r < n → row_below n r ≡ Some r
+unfolding row_below
+row_some {n} {r} l = rw (lt-ltb r n l, row_below)
+
+pub row_none : {n r : ℕ} → n ≤ r → row_below n r ≡ None
+unfolding row_below
+row_none {n} {r} l = rw (le-ltb r n l, row_below)
+
+-- what an answer says of the row
+pub row_of-some : {n r i : ℕ} → row_below n r ≡ Some i → (i ≡ r) × (r < n)
+unfolding row_below
+row_of-some {n} {r} {i} e = go (ltb r n) refl
+  where
+    some_same : {a b : ℕ} → ◌≡◌ {A = Option ℕ} (Some a) (Some b) → a ≡ b
+    some_same q = cc
+    some_not : {a : ℕ} → ◌≡◌ {A = Option ℕ} None (Some a) → ⊥
+    some_not q = let z : ◌≡◌ {A = ℕ} 0 1 = cc in omega arith
+    go : (t : Bool) → ltb r n ≡ t → (i ≡ r) × (r < n)
+    go true q = (sym (some_same (sym (row_some (ltb-true r n q)) ∙ e)), ltb-true r n q)
+    go false q = absurd (some_not (sym (row_none (ltb-false r n q)) ∙ e))
+
+pub row_of-none : {n r : ℕ} → row_below n r ≡ None → n ≤ r
+unfolding row_below
+row_of-none {n} {r} e = go (ltb r n) refl
+  where
+    none_not : {a : ℕ} → ◌≡◌ {A = Option ℕ} (Some a) None → ⊥
+    none_not q = let z : ◌≡◌ {A = ℕ} 0 1 = cc in omega arith
+    go : (t : Bool) → ltb r n ≡ t → n ≤ r
+    go true q = absurd (none_not (sym (row_some (ltb-true r n q)) ∙ e))
+    go false q = ltb-false r n q
 
 -- ---- the lowest row
 
@@ -78,6 +112,16 @@ module _ (f : ℕ → Bool) where
       let a : n ≡ i = omega arith in
       let b : 0 ≡ n - i = omega arith in
       a ∙ sym (from_none i) ∙ ap (lowest_from f i) b ∙ s
+
+  -- where a loop upwards ends: at a row that passes, which is the answer, or with none
+  pub lowest_hit : (n i : ℕ) → i < n → Sought n i → f i ≡ true → Some i ≡ lowest_row f n
+  lowest_hit n i l s e = let q : i ≡ lowest f n = sought_hit n i l s e in
+      let k : lowest f n < n = omega (arith, q) in
+      ap (λ (x : ℕ). Some x) q ∙ sym (row_some k)
+
+  pub lowest_missed : (n i : ℕ) → i ≤ n → n ≤ i → Sought n i → None ≡ lowest_row f n
+  lowest_missed n i h l s = let q : n ≡ lowest f n = sought_none n i h l s in
+      let k : n ≤ lowest f n = omega (arith, q) in sym (row_none k)
 
   from_le : (i k : ℕ) → (i ≤ lowest_from f i k) × (lowest_from f i k ≤ i + k)
   from_le i zero = (omega (arith, from_none i), omega (arith, from_none i))
@@ -140,6 +184,21 @@ module _ (f : ℕ → Bool) where
       apart zero (suc b) n = inl (omega arith)
       apart (suc a) zero n = inr (omega arith)
       apart (suc a) (suc b) n = ⊎_elim (λ (l : a < b). inl (omega arith)) (λ (l : b < a). inr (omega arith)) (apart a b (λ q. n (ap suc q)))
+
+  -- the answer of a search in one step, as `find` gives it over a range
+  pub lowest_found : (n : ℕ) (r : Option ℕ) → MatchOption r ((k : ℕ) → k < n → f k ≡ false) (λ i. (i < n) × (f i ≡ true) × ((k : ℕ) → k < i → f k ≡ false)) → r ≡ lowest_row f n
+  lowest_found n None h = let k : n ≤ lowest f n = omega (arith, lowest_none n h) in sym (row_none k)
+  lowest_found n (Some i) h = let q : i ≡ lowest f n = sym (lowest_is n i h.0 h.1 h.2) in
+      let k : lowest f n < n = omega (arith, q, h.0) in
+      ap (λ (x : ℕ). Some x) q ∙ sym (row_some k)
+
+  -- what an answer says: of a row, that it passes and none before it does, and of none, that none does
+  pub lowest_row-some : (n i : ℕ) → Some i ≡ lowest_row f n → (i < n) × (f i ≡ true) × (i ≡ lowest f n)
+  lowest_row-some n i e = let w : (i ≡ lowest f n) × (lowest f n < n) = row_of-some (sym e) in
+      (omega (arith, w.0, w.1), rw (w.0) (lowest_passes n w.1), w.0)
+
+  pub lowest_row-none : (n : ℕ) → None ≡ lowest_row f n → lowest f n ≡ n
+  lowest_row-none n e = let k : n ≤ lowest f n = row_of-none (sym e) in omega (arith, k, lowest_le n)
 
 -- ---- rows made by a function
 

@@ -1,6 +1,8 @@
 -- What the customer must believe: the words of 01 as functions that compute.
 pub mod Words
 pub mod Rows
+pub mod Even
+pub mod Columns
 pub mod Forest
 pub mod Answer
 pub mod Lent

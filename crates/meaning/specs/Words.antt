@@ -1,6 +1,6 @@
 -- The few words on lists with which everything else is said.
-use Rattle.std.specs.Prelude.{Bool, true, false, List, [], ◌∷◌, ◌++◌, ℕ, zero, suc, eqb, ltb, get_or, replicate}
-use Rattle.std.proofs.Math.Option.{Option, none, some}
+use Rattle.std.specs.Prelude.{Bool, true, false, List, [], ◌∷◌, ◌++◌, ℕ, zero, suc, eqb, ltb, length, get_or, replicate, Option, Some, None}
+use Rattle.std.proofs.Math.Option as Math
 
 abbrev pub and : Bool → Bool → Bool
 and true b = b
@@ -26,9 +26,9 @@ unfoldable pub count : (ℕ → Bool) → List ℕ → ℕ
 count f [] = 0
 count f (b ∷ l) = elim (f b) [ true ↦ suc (count f l) | false ↦ count f l ]
 
-unfoldable pub first_of : (ℕ → Bool) → List ℕ → Option ℕ
-first_of f [] = none
-first_of f (b ∷ l) = elim (f b) [ true ↦ some b | false ↦ first_of f l ]
+unfoldable pub first_of : (ℕ → Bool) → List ℕ → Math.Option ℕ
+first_of f [] = Math.none
+first_of f (b ∷ l) = elim (f b) [ true ↦ Math.some b | false ↦ first_of f l ]
 
 unfoldable pub filter : {A : Type 0} → (A → Bool) → List A → List A
 filter f [] = []
@@ -59,6 +59,18 @@ lowest_from f i (suc k) = elim (f i) [ true ↦ i | false ↦ lowest_from f (suc
 unfoldable pub lowest : (ℕ → Bool) → ℕ → ℕ
 unfolding lowest_from
 lowest f n = lowest_from f 0 n
+
+-- row r where it is below n, and else none
+unfoldable pub row_below : ℕ → ℕ → Option ℕ
+row_below n r = elim (ltb r n) [ true ↦ Some r | false ↦ None ]
+
+-- the lowest row below n that passes, where one does
+abbrev pub lowest_row : (ℕ → Bool) → ℕ → Option ℕ
+lowest_row f n = row_below n (lowest f n)
+
+-- the place of b in a list, where it has it
+abbrev pub place_in : ℕ → List ℕ → Option ℕ
+place_in b l = row_below (length l) (index_of b l)
 
 -- k rows from i, each made by f
 unfoldable pub rows_from : {A : Type 0} → (ℕ → A) → ℕ → ℕ → List A

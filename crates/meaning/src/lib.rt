@@ -3,6 +3,8 @@
 
 #![tactic(auto)]
 
+pub mod columns; // tables 1 to 4 as lent
+
 ghost use Rattle.std.specs.Prelude.{◌≡◌};
 ghost use Rattle.meaning.specs.Answer.{Limits, limits, longest, refusal_of, told_of};
 
