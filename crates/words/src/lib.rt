@@ -7,7 +7,7 @@ ghost use Rattle.std.specs.Prelude.{◌≡◌, [], ◌∷◌, ℕ, ◌+◌, ◌-
 ghost use Rattle.meaning.specs.Words.{rows};
 ghost use Rattle.words.specs.Columns.{column, Only, edge, Aside};
 
-// The nodes' columns, by number.
+// The nodes' columns, by number, which an enum would not tell: three of them have no name.
 #[derive(Drop)]
 pub struct NodeColumn {
     pub number: usize,
@@ -57,7 +57,7 @@ impl NodeColumn {
     pub const ALL: usize = 16;
 }
 
-// The edges' columns, by number.
+// The edges' columns, by number, which an enum would not tell: one of them has two names.
 #[derive(Drop)]
 pub struct EdgeColumn {
     pub number: usize,
@@ -86,16 +86,15 @@ impl EdgeColumn {
     pub const ALL: usize = 6;
 }
 
-// Every row of the nodes' column k gets v.
+// Every row of the nodes' column k gets v. The five functions differ in the column and in what is written, and a closure for that asks more
+// clauses than it spares.
 pub fn fill(words: &mut [u32], n: usize, k: usize, v: u32)
     requires { (k < 16) × (16 * n ≤ length words.old) }
     ensures { (column k words.new n ≡ rows (λ u. v) n) × Only (k ∷ []) n words.old words.new }
 {
     let a = k * n;
-    let mut i = 0;
-    while i < n {
+    for i in 0..n {
         words[a + i] = v;
-        i += 1;
     }
 }
 
@@ -105,10 +104,8 @@ pub fn number(words: &mut [u32], n: usize, k: usize)
     ensures { (column k words.new n ≡ rows (λ u. u) n) × Only (k ∷ []) n words.old words.new }
 {
     let a = k * n;
-    let mut i = 0;
-    while i < n {
+    for i in 0..n {
         words[a + i] = i as u32;
-        i += 1;
     }
 }
 
@@ -118,10 +115,8 @@ pub fn fill_edges(words: &mut [u32], n: usize, m: usize, k: usize, v: u32)
     ensures { (edge k words.new n m ≡ rows (λ e. v) m) × Aside [] (k ∷ []) n m words.old words.new }
 {
     let a = NodeColumn::ALL * n + k * m;
-    let mut e = 0;
-    while e < m {
+    for e in 0..m {
         words[a + e] = v;
-        e += 1;
     }
 }
 
@@ -131,10 +126,8 @@ pub fn number_edges(words: &mut [u32], n: usize, m: usize, k: usize)
     ensures { (edge k words.new n m ≡ rows (λ e. e) m) × Aside [] (k ∷ []) n m words.old words.new }
 {
     let a = NodeColumn::ALL * n + k * m;
-    let mut e = 0;
-    while e < m {
+    for e in 0..m {
         words[a + e] = e as u32;
-        e += 1;
     }
 }
 
@@ -144,9 +137,7 @@ pub fn number_edges_down(words: &mut [u32], n: usize, m: usize, k: usize)
     ensures { (edge k words.new n m ≡ rows (λ e. m - (e + 1)) m) × Aside [] (k ∷ []) n m words.old words.new }
 {
     let a = NodeColumn::ALL * n + k * m;
-    let mut e = 0;
-    while e < m {
+    for e in 0..m {
         words[a + e] = (m - (e + 1)) as u32;
-        e += 1;
     }
 }
