@@ -1,6 +1,6 @@
 -- Where each site's mutations stand older first, none is above an earlier one: an ancestor is older.
-use mathlib.Core.Path.{◌≡◌, sym, ap, ◌∙◌}
-use mathlib.Core.Bool.{Bool, true, false}
+use mathlib.Core.Path.{◌≡◌, refl, sym, ap, ◌∙◌}
+use mathlib.Core.Bool.{Bool, true, false, not}
 use mathlib.Core.List.{List}
 use mathlib.Core.Logic.{⊎_elim}
 use Prim.Native.Nat.{ℕ, zero, suc, ◌+◌, ◌<◌, ◌≤◌}
@@ -23,13 +23,13 @@ use Rattle.overtaking.proofs.Stamping.{ancestor_older}
 -- ---- one row, and row after row
 
 module _ (time site node : List ℕ) where
-  pub last_older : (i : ℕ) → true ≡ ends_site site i → false ≡ younger_first time site node i
+  pub last_older : (i : ℕ) (e : Bool) → e ≡ ends_site site i → e ≡ true → not e ≡ younger_first time site node i
   unfolding younger_first
-  last_older i h = rw (sym h)
+  last_older i e h q = rw (sym h) (rw q refl)
 
-  pub inner_older : (i : ℕ) → false ≡ ends_site site i → ltb (at time (at node i)) (at time (at node (i + 1))) ≡ younger_first time site node i
+  pub inner_older : (i : ℕ) (e : Bool) → e ≡ ends_site site i → e ≡ false → ltb (at time (at node i)) (at time (at node (i + 1))) ≡ younger_first time site node i
   unfolding younger_first
-  inner_older i h = let q : i + 1 ≡ suc i = omega arith in rw (sym h) (ap (λ j. ltb (at time (at node i)) (at time (at node j))) q)
+  inner_older i e h q = let p : i + 1 ≡ suc i = omega arith in rw (sym h) (rw q (ap (λ j. ltb (at time (at node i)) (at time (at node j))) p))
 
   pub some_found : (i : ℕ) → i < length site → younger_first time site node i ≡ true → true ≡ some_younger_first time site node
   unfolding some_younger_first

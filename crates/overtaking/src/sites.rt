@@ -8,10 +8,7 @@ pub fn ends_site(site: &[u32], i: usize) -> bool
     requires { i < length site.now }
     ensures { result ≡ ends_site site.now i }
 {
-    if site.len() - i <= 1 {
-        return true;
-    }
-    site[i] != site[i + 1]
+    i + 1 == site.len() || site[i] != site[i + 1]
 }
 
 // Whether the node of mutation row i is younger than that of the next row of its site.
@@ -19,10 +16,7 @@ fn younger_first(time: &[u32], site: &[u32], node: &[u32], i: usize) -> bool
     requires { ((sites : ℕ) × Lined sites (length time.now) site.now node.now) × (i < length site.now) }
     ensures { result ≡ younger_first time.now site.now node.now i }
 {
-    if ends_site(site, i) {
-        return false;
-    }
-    time[node[i] as usize] < time[node[i + 1] as usize]
+    !ends_site(site, i) && time[node[i] as usize] < time[node[i + 1] as usize]
 }
 
 // Whether some site's mutations do not stand older first.
@@ -30,12 +24,10 @@ pub fn some_younger_first(time: &[u32], site: &[u32], node: &[u32]) -> bool
     requires { (sites : ℕ) × Lined sites (length time.now) site.now node.now }
     ensures { result ≡ some_younger_first time.now site.now node.now }
 {
-    let mut i = 0;
-    while i < site.len() {
+    for i in 0..site.len() {
         if younger_first(time, site, node, i) {
             return true;
         }
-        i += 1;
     }
     false
 }

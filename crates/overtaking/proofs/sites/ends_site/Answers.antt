@@ -2,8 +2,8 @@
 use Rattle.overtaking.proofs.Overtaking.{last_ends, inner_ends}
 use Rattle.overtaking.proofs.sites.ends_site.Goals as goal
 
-pub returns-then-site-i-le1 : goal.returns-then-site-i-le1
-returns-then-site-i-le1 c = last_ends _ _ c.if-site-i-le1.true
+pub returns-then-i-site : goal.returns-then-i-site
+returns-then-i-site c = last_ends _ _ c.if-i-site.true
 
-pub returns : goal.returns
-returns c = inner_ends _ _ c.if-site-i-le1.false
+pub returns-else-i-site : goal.returns-else-i-site
+returns-else-i-site c = inner_ends _ _ c.requires c.if-i-site.false

@@ -1,14 +1,9 @@
 -- `some_younger_first` meets its contract: no row gone over is younger than the next of its site.
 use mathlib.Core.Path.{◌≡◌}
 use mathlib.Core.Bool.{false}
-use Prim.Native.Nat.{◌-◌, ◌≤◌}
-use lib.ListN.{length}
 use Rattle.meaning.specs.Words.{any_below}
 use Rattle.overtaking.specs.Sites.{younger_first}
 use Rattle.overtaking.proofs.sites.some_younger_first.Given as goal
 
 abbrev pub invariant-loop-i : goal.invariant-loop-i
-invariant-loop-i l = (l.i ≤ length l.site) × (any_below (younger_first l.time l.site l.node) l.i ≡ false)
-
-abbrev pub decreases-loop-i : goal.decreases-loop-i
-decreases-loop-i l = length l.site - l.i
+invariant-loop-i l = any_below (younger_first l.time l.site l.node) l.i ≡ false
