@@ -1,5 +1,5 @@
 -- Mutation rows by site: where a site's rows end, and which of them are still to come.
-use Rattle.std.specs.Prelude.{◌≡◌, Bool, true, not, List, ℕ, suc, ◌<◌, ◌≤◌, eqb, leb, ltb, length}
+use Rattle.std.specs.Prelude.{◌≡◌, Bool, not, List, ℕ, suc, ◌<◌, ◌≤◌, eqb, leb, ltb, length}
 use Rattle.meaning.specs.Words.{and, or, at, any_below}
 
 -- mutation row i is the last of its site

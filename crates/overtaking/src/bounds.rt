@@ -1,7 +1,8 @@
 // How far up a mutation's ancestors matter: to the oldest node among the later mutations of its site.
-ghost use Rattle.std.specs.Prelude.{◌≡◌, ℕ, ◌<◌, length};
+ghost use Rattle.std.specs.Prelude.{◌<◌, length};
 ghost use Rattle.overtaking.specs.Bounds.{Bounded};
-ghost use Rattle.overtaking.specs.Overtaken.{Lined};
+
+use crate::sites::BySite;
 
 // How many later mutations are gone over at most, so that a row costs no more than so many steps.
 const MOST: usize = 64;
@@ -11,19 +12,19 @@ const OLDEST: u32 = u32::MAX;
 
 // The oldest time among the nodes of the mutations after row i at its site. Where too many follow they are not gone over, and the
 // answer is the oldest time that there is.
-pub fn oldest_later(time: &[u32], site: &[u32], node: &[u32], i: usize) -> u32
-    requires { ((sites : ℕ) × Lined sites (length time.now) site.now node.now) × (i < length site.now) }
-    ensures { Bounded time.now site.now node.now i result }
+pub fn oldest_later(mutations: BySite, i: usize) -> u32
+    requires { i < length mutations.site.now }
+    ensures { Bounded mutations.entry.time.now mutations.entry.site.now mutations.entry.node.now i result }
 {
     let mut top = 0u32;
-    for k in i + 1..site.len() {
-        if site[k] != site[i] {
+    for k in i + 1..mutations.site.len() {
+        if mutations.site[k] != mutations.site[i] {
             return top;
         }
         if k - i > MOST {
             return OLDEST;
         }
-        top = top.max(time[node[k] as usize]);
+        top = top.max(mutations.time[mutations.node[k] as usize]);
     }
     top
 }

@@ -3,4 +3,4 @@ use Rattle.overtaking.proofs.Bounding.{Met}
 use Rattle.overtaking.proofs.bounds.oldest_later.Given as goal
 
 abbrev pub invariant-loop-k : goal.invariant-loop-k
-invariant-loop-k l = Met l.time l.node l.i l.k l.top
+invariant-loop-k l = Met l.mutations.time.now l.mutations.node.now l.i l.k l.top

@@ -1,8 +1,7 @@
 -- `some_younger_first` meets its contract: no row gone over is younger than the next of its site.
 use mathlib.Core.Path.{sym, ◌∙◌}
 use Rattle.overtaking.proofs.OlderFirst.{some_found, some_start, some_miss, some_none}
-use native.Mathlib.Omega.{arith}
-use Rattle.overtaking.proofs.sites.some_younger_first.Goals as goal
+use Rattle.overtaking.proofs.sites.BySite.some_younger_first.Goals as goal
 
 pub loop-i-init : goal.loop-i-init
 loop-i-init c = some_start _ _ _
