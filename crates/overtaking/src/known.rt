@@ -17,7 +17,9 @@ pub struct Kept<'a> {
 impl Kept<'_> {
     // The parent row of row u at x, or none: the answer kept while it holds, and else a new one.
     pub fn parent(&mut self, index: EdgeIndex, x: u32, u: u32) -> u32
-        requires { (u < length index.ends.now) × (u < length self.old.par.now) × Known (edges_in index.edges) x self.old.par.now self.old.until.now }
+        requires { (u < length index.ends.now) ×
+            (u < length self.old.par.now) ×
+            Known (edges_in index.edges) x self.old.par.now self.old.until.now }
         ensures answer { result ≡ code (parent_row (edges_in index.entry.edges) x u) }
         ensures known { Known (edges_in index.entry.edges) x self.new.par.now self.new.until.now }
         ensures long { length self.new.par.now ≡ length self.old.par.now }

@@ -28,9 +28,14 @@ use sites::BySite;
 // 01's rule 10 by rows: the lowest mutation row whose node is a proper ancestor, at its site's position, of the node of an earlier
 // mutation at that site. Where each site's mutations stand older first there is nothing to look at.
 pub fn first_above(len: u32, tables: Tables, by_child: &[u32]) -> Option<usize>
-    requires { (length tables.ages.time.now ≤ limits.nodes) × (length tables.edges.left.now ≤ limits.edges) × (length tables.sites.position.now ≤ limits.sites) × Rising
-        tables.ages.time.now (edges_in tables.edges) × Whole (edges_in tables.edges) len × ByChild (edges_in tables.edges) by_child.now × Rightwards
-        tables.sites.position.now × Lined (length tables.sites.position.now) (length tables.ages.time.now) tables.mutations.site.now tables.mutations.node.now }
+    requires { (length tables.ages.time.now ≤ limits.nodes) ×
+        (length tables.edges.left.now ≤ limits.edges) ×
+        (length tables.sites.position.now ≤ limits.sites) ×
+        Rising tables.ages.time.now (edges_in tables.edges) ×
+        Whole (edges_in tables.edges) len ×
+        ByChild (edges_in tables.edges) by_child.now ×
+        Rightwards tables.sites.position.now ×
+        Lined (length tables.sites.position.now) (length tables.ages.time.now) tables.mutations.site.now tables.mutations.node.now }
     ensures { result
         ≡ lowest_row (mutation_above (edges_of (λ x. x) (edges_in tables.entry.edges)) tables.entry.sites.position.now (λ x. x)
         (mutations_in tables.entry.mutations)) (length tables.entry.mutations.site.now) }
@@ -62,19 +67,30 @@ pub fn first_above(len: u32, tables: Tables, by_child: &[u32]) -> Option<usize>
     stamps::lowest_above(index, mutations, &mut kept, &mut stamps)
 }
 
-// The same of mutations with their rows beside them, and of edges by child: the lowest of those rows.
-fn least_by_child(
+// The same of mutations with their rows beside them: the lowest of those rows. The edges are not by child yet, and by_child is a working
+// column. Where each site's mutations stand older first the edges are left alone.
+pub fn least_row_above(
     len: u32,
     edges: EdgeColumns,
-    by_child: &[u32],
     mutations: BySite,
     row: &[u32],
+    by_child: &mut [u32],
 ) -> Option<usize>
-    requires { (length mutations.time.now ≤ limits.nodes) × (length edges.left.now ≤ limits.edges) × Rising mutations.time.now (edges_in edges) × Whole
-        (edges_in edges) len × ByChild (edges_in edges) by_child.now × (length row.now ≡ length mutations.site.now) }
+    requires { (length mutations.time.now ≤ limits.nodes) ×
+        (length edges.left.now ≤ limits.edges) ×
+        Rising mutations.time.now (edges_in edges) ×
+        Whole (edges_in edges) len ×
+        ((i : ℕ) → i < length edges.left.now → edge_shared (edges_in edges) i ≡ false) ×
+        (length row.now ≡ length mutations.site.now) ×
+        (length by_child.old ≡ length edges.left.now) }
     ensures { result
-        ≡ lowest_row (overtaken_row (edges_in edges.entry) mutations.entry.position.now mutations.entry.site.now mutations.entry.node.now row.now) (length mutations.entry.site.now) }
+        ≡ lowest_row (overtaken_row (edges_in edges.entry) mutations.entry.position.now mutations.entry.site.now mutations.entry.node.now
+        row.now) (length mutations.entry.site.now) }
 {
+    if !mutations.some_younger_first() {
+        return None;
+    }
+    rules::shared::by_child(edges.left, edges.right, edges.parent, edges.child, by_child);
     let mut ends = [0u32; NodeTable::MOST];
     let mut par = [0u32; NodeTable::MOST];
     let mut until = [0u32; NodeTable::MOST];
@@ -91,24 +107,4 @@ fn least_by_child(
         until: &mut until,
     };
     stamps::least_above(index, mutations, row, &mut kept, &mut stamps)
-}
-
-// The same of edges that are not by child yet; by_child is a working column. Where each site's mutations stand older first the edges are left alone.
-pub fn least_row_above(
-    len: u32,
-    edges: EdgeColumns,
-    mutations: BySite,
-    row: &[u32],
-    by_child: &mut [u32],
-) -> Option<usize>
-    requires { (length mutations.time.now ≤ limits.nodes) × (length edges.left.now ≤ limits.edges) × Rising mutations.time.now (edges_in edges) × Whole
-        (edges_in edges) len × ((i : ℕ) → i < length edges.left.now → edge_shared (edges_in edges) i ≡ false) × (length row.now ≡ length mutations.site.now) × (length by_child.old ≡ length edges.left.now) }
-    ensures { result
-        ≡ lowest_row (overtaken_row (edges_in edges.entry) mutations.entry.position.now mutations.entry.site.now mutations.entry.node.now row.now) (length mutations.entry.site.now) }
-{
-    if !mutations.some_younger_first() {
-        return None;
-    }
-    rules::shared::by_child(edges.left, edges.right, edges.parent, edges.child, by_child);
-    least_by_child(len, edges, by_child, mutations, row)
 }

@@ -17,8 +17,10 @@ pub struct BySite<'a> {
 impl<'a> BySite<'a> {
     // The columns as one, of tables in which rules 1, 2, 8 and 9 find nothing.
     pub fn new(time: &'a [u32], position: &'a [u32], site: &'a [u32], node: &'a [u32]) -> BySite<'a>
-        requires { (length time.now ≤ limits.nodes) × (length position.now ≤ limits.sites) × Rightwards position.now × Lined
-            (length position.now) (length time.now) site.now node.now }
+        requires { (length time.now ≤ limits.nodes) ×
+            (length position.now ≤ limits.sites) ×
+            Rightwards position.now ×
+            Lined (length position.now) (length time.now) site.now node.now }
         ensures time { result.time.now ≡ time.now }
         ensures position { result.position.now ≡ position.now }
         ensures site { result.site.now ≡ site.now }

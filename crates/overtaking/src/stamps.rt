@@ -25,8 +25,9 @@ fn stamp_up(
     stamps: &mut [u32],
     u0: u32,
 )
-    requires { Stampable time.now (edges_in index.edges) stamps.old u0 × Keeping (length time.now) index.ends.now kept.old.par.now × Known
-        (edges_in index.edges) x kept.old.par.now kept.old.until.now }
+    requires { Stampable time.now (edges_in index.edges) stamps.old u0 ×
+        Keeping (length time.now) index.ends.now kept.old.par.now ×
+        Known (edges_in index.edges) x kept.old.par.now kept.old.until.now }
     ensures stamped { StampedUp (parent_row (edges_in index.entry.edges) x) (at time.now) t bound u0 stamps.old stamps.new }
     ensures known { Known (edges_in index.entry.edges) x kept.new.par.now kept.new.until.now }
     ensures long { length kept.new.par.now ≡ length kept.old.par.now }
@@ -34,10 +35,7 @@ fn stamp_up(
     let mut u = u0;
     while time[u as usize] < bound {
         let p = kept.parent(index, x, u);
-        if p == ParentColumn::NONE {
-            return;
-        }
-        if stamps[p as usize] == t {
+        if p == ParentColumn::NONE || stamps[p as usize] == t {
             return;
         }
         stamps[p as usize] = t;
@@ -47,9 +45,12 @@ fn stamp_up(
 
 // Stamps the ancestors of mutation row i's node, unless no other mutation of its site follows.
 fn stamp_above(index: EdgeIndex, mutations: BySite, i: usize, kept: &mut Kept, stamps: &mut [u32])
-    requires { Working mutations.time.now (edges_in index.edges) index.ends.now kept.old.par.now stamps.old × (i < length mutations.site.now) × Going
-        mutations.time.now (edges_in index.edges) mutations.position.now mutations.site.now mutations.node.now i kept.old.par.now kept.old.until.now stamps.old }
-    ensures gone { Gone mutations.entry.time.now (edges_in index.entry.edges) mutations.entry.position.now mutations.entry.site.now mutations.entry.node.now i kept.new.par.now kept.new.until.now stamps.new }
+    requires { Working mutations.time.now (edges_in index.edges) index.ends.now kept.old.par.now stamps.old ×
+        (i < length mutations.site.now) ×
+        Going mutations.time.now (edges_in index.edges) mutations.position.now mutations.site.now mutations.node.now i
+        kept.old.par.now kept.old.until.now stamps.old }
+    ensures gone { Gone mutations.entry.time.now (edges_in index.entry.edges) mutations.entry.position.now mutations.entry.site.now
+        mutations.entry.node.now i kept.new.par.now kept.new.until.now stamps.new }
     ensures long { length kept.new.par.now ≡ length kept.old.par.now }
 {
     if mutations.ends_site(i) {
@@ -76,10 +77,14 @@ fn overtakes(
     kept: &mut Kept,
     stamps: &mut [u32],
 ) -> bool
-    requires { Working mutations.time.now (edges_in index.edges) index.ends.now kept.old.par.now stamps.old × (i < length mutations.site.now) × Going
-        mutations.time.now (edges_in index.edges) mutations.position.now mutations.site.now mutations.node.now i kept.old.par.now kept.old.until.now stamps.old }
-    ensures answer { result ≡ overtaken (edges_in index.entry.edges) mutations.entry.position.now mutations.entry.site.now mutations.entry.node.now i }
-    ensures gone { Gone mutations.entry.time.now (edges_in index.entry.edges) mutations.entry.position.now mutations.entry.site.now mutations.entry.node.now i kept.new.par.now kept.new.until.now stamps.new }
+    requires { Working mutations.time.now (edges_in index.edges) index.ends.now kept.old.par.now stamps.old ×
+        (i < length mutations.site.now) ×
+        Going mutations.time.now (edges_in index.edges) mutations.position.now mutations.site.now mutations.node.now i
+        kept.old.par.now kept.old.until.now stamps.old }
+    ensures answer { result
+        ≡ overtaken (edges_in index.entry.edges) mutations.entry.position.now mutations.entry.site.now mutations.entry.node.now i }
+    ensures gone { Gone mutations.entry.time.now (edges_in index.entry.edges) mutations.entry.position.now mutations.entry.site.now
+        mutations.entry.node.now i kept.new.par.now kept.new.until.now stamps.new }
     ensures long { length kept.new.par.now ≡ length kept.old.par.now }
 {
     let hit = stamps[mutations.node[i] as usize] == mutations.site[i] + 1;
@@ -94,9 +99,12 @@ pub fn lowest_above(
     kept: &mut Kept,
     stamps: &mut [u32],
 ) -> Option<usize>
-    requires { Working mutations.time.now (edges_in index.edges) index.ends.now kept.old.par.now stamps.old × ((u : ℕ) → at kept.old.until.now u ≡ 0) × ((u : ℕ) → at stamps.old u ≡ 0) }
+    requires { Working mutations.time.now (edges_in index.edges) index.ends.now kept.old.par.now stamps.old ×
+        ((u : ℕ) → at kept.old.until.now u ≡ 0) ×
+        ((u : ℕ) → at stamps.old u ≡ 0) }
     ensures { result
-        ≡ lowest_row (overtaken (edges_in index.entry.edges) mutations.entry.position.now mutations.entry.site.now mutations.entry.node.now) (length mutations.entry.site.now) }
+        ≡ lowest_row (overtaken (edges_in index.entry.edges) mutations.entry.position.now mutations.entry.site.now mutations.entry.node.now)
+        (length mutations.entry.site.now) }
 {
     for i in 0..mutations.site.len() {
         if overtakes(index, mutations, i, kept, stamps) {
@@ -114,14 +122,17 @@ pub fn least_above(
     kept: &mut Kept,
     stamps: &mut [u32],
 ) -> Option<usize>
-    requires { Working mutations.time.now (edges_in index.edges) index.ends.now kept.old.par.now stamps.old × (length row.now ≡ length mutations.site.now) × ((u : ℕ) → at kept.old.until.now u ≡ 0) × ((u : ℕ) → at stamps.old u ≡ 0) }
+    requires { Working mutations.time.now (edges_in index.edges) index.ends.now kept.old.par.now stamps.old ×
+        (length row.now ≡ length mutations.site.now) ×
+        ((u : ℕ) → at kept.old.until.now u ≡ 0) ×
+        ((u : ℕ) → at stamps.old u ≡ 0) }
     ensures { result
-        ≡ lowest_row (overtaken_row (edges_in index.entry.edges) mutations.entry.position.now mutations.entry.site.now mutations.entry.node.now row.now) (length mutations.entry.site.now) }
+        ≡ lowest_row (overtaken_row (edges_in index.entry.edges) mutations.entry.position.now mutations.entry.site.now
+        mutations.entry.node.now row.now) (length mutations.entry.site.now) }
 {
     let mut least = mutations.site.len();
     for i in 0..mutations.site.len() {
-        let hit = overtakes(index, mutations, i, kept, stamps);
-        if hit {
+        if overtakes(index, mutations, i, kept, stamps) {
             least = least.min(row[i] as usize);
         }
     }

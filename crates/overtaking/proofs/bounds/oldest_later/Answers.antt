@@ -11,7 +11,7 @@ pub returns-then-mutations-k : goal.returns-then-mutations-k
 returns-then-mutations-k c = bounded_met c.args.mutations.ordered.lined (omega arith) c.loop-k-test.true c.if-mutations-k.true c.loop-k.invariant
 
 pub loop-k-preserved : goal.loop-k-preserved
-loop-k-preserved c = met_next _ c.max-top.ensures c.loop-k.invariant
+loop-k-preserved c = met_next _ (omega arith) c.loop-k.invariant
 
 pub returns-then-k-i-gt-MOST : goal.returns-then-k-i-gt-MOST
 returns-then-k-i-gt-MOST c = record { later = λ j f. omega (arith, c.args.mutations.ordered.young (at c.args.mutations.node.now j)) }

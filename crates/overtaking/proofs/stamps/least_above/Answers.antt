@@ -1,9 +1,10 @@
 -- `least_above` meets its contract: as `lowest_above`, with the least of the rows found so far.
 use mathlib.Core.Path.{sym, ap, ◌∙◌}
 use Rattle.meaning.specs.Words.{row_below}
+use native.Mathlib.Omega.{arith}
 use Rattle.overtaking.proofs.Least.{least_start, least_hit, least_miss, least_stop, then_row}
 use Rattle.overtaking.proofs.Ready.{going_start, going_next, still_working}
-use Rattle.overtaking.proofs.stamps.least_above.Goals.{then-hit, else-hit}
+use Rattle.overtaking.proofs.stamps.least_above.Goals.{then-overtakes, else-overtakes}
 use Rattle.overtaking.proofs.stamps.least_above.Goals as goal
 
 pub loop-i-init : goal.loop-i-init
@@ -15,9 +16,9 @@ loop-i-init c = record {
 
 pub loop-i-preserved : goal.loop-i-preserved
 loop-i-preserved c = record {
-  least = elim c.if-hit.branch [ then-hit w ↦ least_hit c.loop-i.invariant.least _ (w.least-is ∙ w.min-least.ensures) (sym c.overtakes-hit.ensures.answer ∙ w.if-hit.true) | else-hit w ↦ rw w.least-is (least_miss c.loop-i.invariant.least (sym c.overtakes-hit.ensures.answer ∙ w.if-hit.false)) ];
-  working = still_working c.overtakes-hit.ensures.long c.overtakes-hit.auto.stamps c.loop-i.invariant.working;
-  going = going_next c.args.mutations.ordered c.overtakes-hit.ensures.gone;
+  least = elim c.if-overtakes.branch [ then-overtakes w ↦ least_hit c.loop-i.invariant.least _ (omega arith) (sym c.overtakes.ensures.answer ∙ w.if-overtakes.true) | else-overtakes w ↦ rw w.least-is (least_miss c.loop-i.invariant.least (sym c.overtakes.ensures.answer ∙ w.if-overtakes.false)) ];
+  working = still_working c.overtakes.ensures.long c.overtakes.auto.stamps c.loop-i.invariant.working;
+  going = going_next c.args.mutations.ordered c.overtakes.ensures.gone;
 }
 
 pub returns : goal.returns

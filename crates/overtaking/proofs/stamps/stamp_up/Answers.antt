@@ -1,16 +1,17 @@
 -- `stamp_up` meets its contract: each step up is a law of Stamping, and the number of older rows falls.
 use Rattle.overtaking.proofs.Stamping.{climb_reached, climb_top, climb_in, climb_falls, climb_met, climb_on}
 use native.Mathlib.Omega.{arith}
+use Rattle.overtaking.proofs.stamps.stamp_up.Goals.{then-p-via-then-p, then-p-via-else-p+then-stamps-p}
 use Rattle.overtaking.proofs.stamps.stamp_up.Goals as goal
 
 pub returns-then-p-clause-stamped : goal.returns-then-p-clause-stamped
-returns-then-p-clause-stamped c = climb_top c.loop-u.invariant.climbing _ c.parent-p.ensures.answer (λ i. omega (arith, c.type_inv.time i)) c.if-p.true
+returns-then-p-clause-stamped c = elim c.then-p.branch [
+  | then-p-via-then-p w ↦ climb_top c.loop-u.invariant.climbing _ c.parent-p.ensures.answer (λ i. omega (arith, c.type_inv.time i)) w.if-p.true
+  | then-p-via-else-p+then-stamps-p w ↦ climb_met c.loop-u.invariant.climbing _ c.parent-p.ensures.answer w.if-p.false (λ i. omega (arith, c.type_inv.time i)) w.if-stamps-p.true
+]
 
 pub bounds-stamps-p : goal.bounds-stamps-p
 bounds-stamps-p c = (climb_in c.loop-u.invariant.climbing _ c.parent-p.ensures.answer c.if-p.false).1
-
-pub returns-then-stamps-p-clause-stamped : goal.returns-then-stamps-p-clause-stamped
-returns-then-stamps-p-clause-stamped c = climb_met c.loop-u.invariant.climbing _ c.parent-p.ensures.answer c.if-p.false (λ i. omega (arith, c.type_inv.time i)) c.if-stamps-p.true
 
 pub bounds-stamps-p-in-loop-u : goal.bounds-stamps-p-in-loop-u
 bounds-stamps-p-in-loop-u c = (climb_in c.loop-u.invariant.climbing _ c.parent-p.ensures.answer c.if-p.false).1
