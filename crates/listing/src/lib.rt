@@ -37,7 +37,7 @@ pub fn list(
         (site_table position.now ancestral.now)
         (mutation_table site.now node.now derived.now)) map.now) out.old out.new result }
 {
-    let a = put::one(out, 0, 81, len as usize);
+    let a = put::line(out, 0, b'Q', &[len as usize]);
     let b = tables::nodes(out, a, time, birth, population);
     let c = tables::edges(out, b, left, right, parent, child);
     let d = tables::sites(out, c, position, ancestral);
@@ -53,7 +53,7 @@ pub fn refused_line(number: u32, row: usize, out: &mut [u8]) -> usize
     let a = put::word(out, 0, b"refused");
     let b = put::field(out, a, number as usize);
     let c = put::field(out, b, row);
-    put::byte(out, c, 10)
+    put::byte(out, c, b'\n')
 }
 
 // The line that a longer input prints.

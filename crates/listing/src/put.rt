@@ -3,6 +3,8 @@ ghost use Rattle.std.specs.Prelude.{[], ◌∷◌, ◌+◌, ◌<◌, ◌≤◌, 
 ghost use Rattle.meaning.specs.Printed.{decimal, numbers, lines, out_row};
 ghost use Rattle.listing.specs.Written.{Wrote, spaced};
 
+use meaning::MapTable;
+
 pub fn byte(out: &mut [u8], at: usize, b: u8) -> usize
     requires { at + length (b ∷ []) ≤ length out.old }
     ensures { Wrote at (b ∷ []) out.old out.new result }
@@ -17,10 +19,10 @@ pub fn number(out: &mut [u8], at: usize, n: usize) -> usize
     ensures { Wrote at (decimal n) out.old out.new result }
 {
     if n < 10 {
-        return byte(out, at, 48 + n as u8);
+        return byte(out, at, b'0' + n as u8);
     }
     let p = number(out, at, n / 10);
-    byte(out, p, 48 + (n % 10) as u8)
+    byte(out, p, b'0' + (n % 10) as u8)
 }
 
 // A space and a number.
@@ -28,7 +30,7 @@ pub fn field(out: &mut [u8], at: usize, n: usize) -> usize
     requires { at + length (32 ∷ decimal n) ≤ length out.old }
     ensures { Wrote at (32 ∷ decimal n) out.old out.new result }
 {
-    let p = byte(out, at, 32);
+    let p = byte(out, at, b' ');
     number(out, p, n)
 }
 
@@ -38,10 +40,8 @@ fn fields(out: &mut [u8], start: usize, ns: &[usize]) -> usize
     ensures { Wrote start (lines (spaced ns.now) (length ns.now)) out.old out.new result }
 {
     let mut at = start;
-    let mut j = 0;
-    while j < ns.len() {
-        at = field(out, at, ns[j]);
-        j += 1;
+    for n in ns {
+        at = field(out, at, *n);
     }
     at
 }
@@ -53,40 +53,7 @@ pub fn line(out: &mut [u8], at: usize, letter: u8, ns: &[usize]) -> usize
 {
     let p = byte(out, at, letter);
     let q = fields(out, p, ns);
-    byte(out, q, 10)
-}
-
-// The same with the numbers one by one.
-pub fn one(out: &mut [u8], at: usize, letter: u8, a: usize) -> usize
-    requires { at + length (numbers letter (a ∷ [])) ≤ length out.old }
-    ensures { Wrote at (numbers letter (a ∷ [])) out.old out.new result }
-{
-    let ns = [a];
-    line(out, at, letter, &ns)
-}
-
-pub fn two(out: &mut [u8], at: usize, letter: u8, a: usize, b: usize) -> usize
-    requires { at + length (numbers letter (a ∷ b ∷ [])) ≤ length out.old }
-    ensures { Wrote at (numbers letter (a ∷ b ∷ [])) out.old out.new result }
-{
-    let ns = [a, b];
-    line(out, at, letter, &ns)
-}
-
-pub fn three(out: &mut [u8], at: usize, letter: u8, a: usize, b: usize, c: usize) -> usize
-    requires { at + length (numbers letter (a ∷ b ∷ c ∷ [])) ≤ length out.old }
-    ensures { Wrote at (numbers letter (a ∷ b ∷ c ∷ [])) out.old out.new result }
-{
-    let ns = [a, b, c];
-    line(out, at, letter, &ns)
-}
-
-pub fn four(out: &mut [u8], at: usize, letter: u8, a: usize, b: usize, c: usize, d: usize) -> usize
-    requires { at + length (numbers letter (a ∷ b ∷ c ∷ d ∷ [])) ≤ length out.old }
-    ensures { Wrote at (numbers letter (a ∷ b ∷ c ∷ d ∷ [])) out.old out.new result }
-{
-    let ns = [a, b, c, d];
-    line(out, at, letter, &ns)
+    byte(out, q, b'\n')
 }
 
 // The bytes of a word.
@@ -94,13 +61,9 @@ pub fn word(out: &mut [u8], start: usize, w: &[u8]) -> usize
     requires { start + length w.now ≤ length out.old }
     ensures { Wrote start w.now out.old out.new result }
 {
-    let mut at = start;
-    let mut j = 0;
-    while j < w.len() {
-        at = byte(out, at, w[j]);
-        j += 1;
-    }
-    at
+    let end = start + w.len();
+    out[start..end].copy_from_slice(w);
+    end
 }
 
 // An output row, or `-` for none.
@@ -108,8 +71,8 @@ pub fn out_row(out: &mut [u8], at: usize, row: usize) -> usize
     requires { at + length (out_row row) ≤ length out.old }
     ensures { Wrote at (out_row row) out.old out.new result }
 {
-    if row == 4294967295 {
-        return byte(out, at, 45);
+    if row == MapTable::NONE as usize {
+        return byte(out, at, b'-');
     }
     number(out, at, row)
 }

@@ -48,7 +48,7 @@ pub fn node(
     let t = cell(time, i);
     let b = cell(birth, i);
     let p = stock(population, i);
-    put::four(out, at, 78, i, t, b, p)
+    put::line(out, at, b'N', &[i, t, b, p])
 }
 
 pub fn edge(
@@ -67,7 +67,7 @@ pub fn edge(
     let b = cell(right, i);
     let p = cell(parent, i);
     let c = cell(child, i);
-    put::four(out, at, 69, a, b, p, c)
+    put::line(out, at, b'E', &[a, b, p, c])
 }
 
 pub fn site(out: &mut [u8], at: usize, position: &[u32], ancestral: &[u8], i: usize) -> usize
@@ -76,7 +76,7 @@ pub fn site(out: &mut [u8], at: usize, position: &[u32], ancestral: &[u8], i: us
 {
     let x = cell(position, i);
     let s = state(ancestral, i);
-    put::two(out, at, 83, x, s)
+    put::line(out, at, b'S', &[x, s])
 }
 
 pub fn mutation(
@@ -93,7 +93,7 @@ pub fn mutation(
     let j = cell(site, i);
     let u = cell(node, i);
     let s = state(derived, i);
-    put::three(out, at, 77, j, u, s)
+    put::line(out, at, b'M', &[j, u, s])
 }
 
 // A row of the node map: its letter and number, and its output row.
@@ -102,9 +102,9 @@ pub fn mapped(out: &mut [u8], at: usize, map: &[u32], i: usize) -> usize
     ensures { Wrote at (map_line map.now i) out.old out.new result }
 {
     let row = cell(map, i);
-    let p = put::byte(out, at, 88);
+    let p = put::byte(out, at, b'X');
     let q = put::field(out, p, i);
-    let s = put::byte(out, q, 32);
+    let s = put::byte(out, q, b' ');
     let t = put::out_row(out, s, row);
-    put::byte(out, t, 10)
+    put::byte(out, t, b'\n')
 }

@@ -11,10 +11,8 @@ pub fn nodes(out: &mut [u8], start: usize, time: &[u32], birth: &[u32], populati
     ensures { Wrote start (lines (node_line (node_table time.now birth.now population.now)) (length time.now)) out.old out.new result }
 {
     let mut at = start;
-    let mut i = 0;
-    while i < time.len() {
+    for i in 0..time.len() {
         at = rows::node(out, at, time, birth, population, i);
-        i += 1;
     }
     at
 }
@@ -32,10 +30,8 @@ pub fn edges(
         (edge_table left.now right.now parent.now child.now)) (length left.now)) out.old out.new result }
 {
     let mut at = start;
-    let mut i = 0;
-    while i < left.len() {
+    for i in 0..left.len() {
         at = rows::edge(out, at, left, right, parent, child, i);
-        i += 1;
     }
     at
 }
@@ -45,10 +41,8 @@ pub fn sites(out: &mut [u8], start: usize, position: &[u32], ancestral: &[u8]) -
     ensures { Wrote start (lines (site_line (site_table position.now ancestral.now)) (length position.now)) out.old out.new result }
 {
     let mut at = start;
-    let mut i = 0;
-    while i < position.len() {
+    for i in 0..position.len() {
         at = rows::site(out, at, position, ancestral, i);
-        i += 1;
     }
     at
 }
@@ -59,10 +53,8 @@ pub fn mutations(out: &mut [u8], start: usize, site: &[u32], node: &[u32], deriv
         (mutation_table site.now node.now derived.now)) (length site.now)) out.old out.new result }
 {
     let mut at = start;
-    let mut i = 0;
-    while i < site.len() {
+    for i in 0..site.len() {
         at = rows::mutation(out, at, site, node, derived, i);
-        i += 1;
     }
     at
 }
@@ -73,10 +65,8 @@ pub fn mapping(out: &mut [u8], start: usize, map: &[u32]) -> usize
     ensures { Wrote start (lines (map_line map.now) (length map.now)) out.old out.new result }
 {
     let mut at = start;
-    let mut i = 0;
-    while i < map.len() {
+    for i in 0..map.len() {
         at = rows::mapped(out, at, map, i);
-        i += 1;
     }
     at
 }

@@ -15,8 +15,8 @@ use Rattle.listing.proofs.list.Goals as goal
 room_whole : (len : ℕ) (T : Tables) (map : List ℕ) (out : ℕ) → len < 4294967296 → Narrow T map → length T.nodes.time < 18446744073709551616 → length map < 18446744073709551616 → room (length T.nodes.time) (length T.edges.left) (length T.sites.position) (length T.muts.site) (length map) ≤ out → 0 + length (numbers 81 (len ∷ []) ++ from_nodes T map) ≤ out
 room_whole len T map out h n a b l = omega (arith, ap length (listed_pieces len T map), listed_most len T map h n a b, l)
 
-pub one-a-requires : goal.one-a-requires
-one-a-requires c = let T : Tables = record { nodes = record { time = c.args.time.now; birth = c.args.birth.now; population = c.args.population.now }; edges = record { left = c.args.left.now; right = c.args.right.now; parent = c.args.parent.now; child = c.args.child.now }; sites = record { position = c.args.position.now; ancestral = c.args.ancestral.now }; muts = record { site = c.args.site.now; node = c.args.node.now; derived = c.args.derived.now } } in
+pub line-a-requires : goal.line-a-requires
+line-a-requires c = let T : Tables = record { nodes = record { time = c.args.time.now; birth = c.args.birth.now; population = c.args.population.now }; edges = record { left = c.args.left.now; right = c.args.right.now; parent = c.args.parent.now; child = c.args.child.now }; sites = record { position = c.args.position.now; ancestral = c.args.ancestral.now }; muts = record { site = c.args.site.now; node = c.args.node.now; derived = c.args.derived.now } } in
     let map : List ℕ = c.args.map.now in
     let n : Narrow T map = record { time = λ i. omega (arith, c.type_inv.time i); birth = λ i. omega (arith, c.type_inv.birth i); population = λ i. omega (arith, c.type_inv.population i); left = λ i. omega (arith, c.type_inv.left i); right = λ i. omega (arith, c.type_inv.right i); parent = λ i. omega (arith, c.type_inv.parent i); child = λ i. omega (arith, c.type_inv.child i); position = λ i. omega (arith, c.type_inv.position i); ancestral = λ i. omega (arith, c.type_inv.ancestral i); site = λ i. omega (arith, c.type_inv.site i); node = λ i. omega (arith, c.type_inv.node i); derived = λ i. omega (arith, c.type_inv.derived i); row = λ i. omega (arith, c.type_inv.map i) } in
     let w : 0 + length (numbers 81 (c.args.len ∷ []) ++ from_nodes T map) ≤ length c.args.out.now = room_whole c.args.len T map (length c.args.out.now) (omega (arith, c.ranges.len)) n (omega arith) (omega arith) c.requires in
@@ -27,15 +27,15 @@ nodes-b-requires c = let T : Tables = record { nodes = record { time = c.args.ti
     let map : List ℕ = c.args.map.now in
     let n : Narrow T map = record { time = λ i. omega (arith, c.type_inv.time i); birth = λ i. omega (arith, c.type_inv.birth i); population = λ i. omega (arith, c.type_inv.population i); left = λ i. omega (arith, c.type_inv.left i); right = λ i. omega (arith, c.type_inv.right i); parent = λ i. omega (arith, c.type_inv.parent i); child = λ i. omega (arith, c.type_inv.child i); position = λ i. omega (arith, c.type_inv.position i); ancestral = λ i. omega (arith, c.type_inv.ancestral i); site = λ i. omega (arith, c.type_inv.site i); node = λ i. omega (arith, c.type_inv.node i); derived = λ i. omega (arith, c.type_inv.derived i); row = λ i. omega (arith, c.type_inv.map i) } in
     let w : 0 + length (numbers 81 (c.args.len ∷ []) ++ from_nodes T map) ≤ length c.args.out.now = room_whole c.args.len T map (length c.args.out.now) (omega (arith, c.ranges.len)) n (omega arith) (omega arith) c.requires in
-    let a : c.one-a.result + length (from_nodes T map) ≤ length c.one-a.new.out = room_then (from_nodes T map) c.one-a.ensures w in
-    room_first c.one-a.result (lines (node_line T.nodes) (length T.nodes.time)) (from_edges T map) c.one-a.new.out a
+    let a : c.line-a.result + length (from_nodes T map) ≤ length c.line-a.new.out = room_then (from_nodes T map) c.line-a.ensures w in
+    room_first c.line-a.result (lines (node_line T.nodes) (length T.nodes.time)) (from_edges T map) c.line-a.new.out a
 
 pub edges-c-requires : goal.edges-c-requires
 edges-c-requires c = let T : Tables = record { nodes = record { time = c.args.time.now; birth = c.args.birth.now; population = c.args.population.now }; edges = record { left = c.args.left.now; right = c.args.right.now; parent = c.args.parent.now; child = c.args.child.now }; sites = record { position = c.args.position.now; ancestral = c.args.ancestral.now }; muts = record { site = c.args.site.now; node = c.args.node.now; derived = c.args.derived.now } } in
     let map : List ℕ = c.args.map.now in
     let n : Narrow T map = record { time = λ i. omega (arith, c.type_inv.time i); birth = λ i. omega (arith, c.type_inv.birth i); population = λ i. omega (arith, c.type_inv.population i); left = λ i. omega (arith, c.type_inv.left i); right = λ i. omega (arith, c.type_inv.right i); parent = λ i. omega (arith, c.type_inv.parent i); child = λ i. omega (arith, c.type_inv.child i); position = λ i. omega (arith, c.type_inv.position i); ancestral = λ i. omega (arith, c.type_inv.ancestral i); site = λ i. omega (arith, c.type_inv.site i); node = λ i. omega (arith, c.type_inv.node i); derived = λ i. omega (arith, c.type_inv.derived i); row = λ i. omega (arith, c.type_inv.map i) } in
     let w : 0 + length (numbers 81 (c.args.len ∷ []) ++ from_nodes T map) ≤ length c.args.out.now = room_whole c.args.len T map (length c.args.out.now) (omega (arith, c.ranges.len)) n (omega arith) (omega arith) c.requires in
-    let a : c.one-a.result + length (from_nodes T map) ≤ length c.one-a.new.out = room_then (from_nodes T map) c.one-a.ensures w in
+    let a : c.line-a.result + length (from_nodes T map) ≤ length c.line-a.new.out = room_then (from_nodes T map) c.line-a.ensures w in
     let b : c.nodes-b.result + length (from_edges T map) ≤ length c.nodes-b.new.out = room_then (from_edges T map) c.nodes-b.ensures a in
     room_first c.nodes-b.result (lines (edge_line T.edges) (length T.edges.left)) (from_sites T map) c.nodes-b.new.out b
 
@@ -44,7 +44,7 @@ sites-d-requires c = let T : Tables = record { nodes = record { time = c.args.ti
     let map : List ℕ = c.args.map.now in
     let n : Narrow T map = record { time = λ i. omega (arith, c.type_inv.time i); birth = λ i. omega (arith, c.type_inv.birth i); population = λ i. omega (arith, c.type_inv.population i); left = λ i. omega (arith, c.type_inv.left i); right = λ i. omega (arith, c.type_inv.right i); parent = λ i. omega (arith, c.type_inv.parent i); child = λ i. omega (arith, c.type_inv.child i); position = λ i. omega (arith, c.type_inv.position i); ancestral = λ i. omega (arith, c.type_inv.ancestral i); site = λ i. omega (arith, c.type_inv.site i); node = λ i. omega (arith, c.type_inv.node i); derived = λ i. omega (arith, c.type_inv.derived i); row = λ i. omega (arith, c.type_inv.map i) } in
     let w : 0 + length (numbers 81 (c.args.len ∷ []) ++ from_nodes T map) ≤ length c.args.out.now = room_whole c.args.len T map (length c.args.out.now) (omega (arith, c.ranges.len)) n (omega arith) (omega arith) c.requires in
-    let a : c.one-a.result + length (from_nodes T map) ≤ length c.one-a.new.out = room_then (from_nodes T map) c.one-a.ensures w in
+    let a : c.line-a.result + length (from_nodes T map) ≤ length c.line-a.new.out = room_then (from_nodes T map) c.line-a.ensures w in
     let b : c.nodes-b.result + length (from_edges T map) ≤ length c.nodes-b.new.out = room_then (from_edges T map) c.nodes-b.ensures a in
     let d : c.edges-c.result + length (from_sites T map) ≤ length c.edges-c.new.out = room_then (from_sites T map) c.edges-c.ensures b in
     room_first c.edges-c.result (lines (site_line T.sites) (length T.sites.position)) (from_mutations T map) c.edges-c.new.out d
@@ -54,7 +54,7 @@ mutations-e-requires c = let T : Tables = record { nodes = record { time = c.arg
     let map : List ℕ = c.args.map.now in
     let n : Narrow T map = record { time = λ i. omega (arith, c.type_inv.time i); birth = λ i. omega (arith, c.type_inv.birth i); population = λ i. omega (arith, c.type_inv.population i); left = λ i. omega (arith, c.type_inv.left i); right = λ i. omega (arith, c.type_inv.right i); parent = λ i. omega (arith, c.type_inv.parent i); child = λ i. omega (arith, c.type_inv.child i); position = λ i. omega (arith, c.type_inv.position i); ancestral = λ i. omega (arith, c.type_inv.ancestral i); site = λ i. omega (arith, c.type_inv.site i); node = λ i. omega (arith, c.type_inv.node i); derived = λ i. omega (arith, c.type_inv.derived i); row = λ i. omega (arith, c.type_inv.map i) } in
     let w : 0 + length (numbers 81 (c.args.len ∷ []) ++ from_nodes T map) ≤ length c.args.out.now = room_whole c.args.len T map (length c.args.out.now) (omega (arith, c.ranges.len)) n (omega arith) (omega arith) c.requires in
-    let a : c.one-a.result + length (from_nodes T map) ≤ length c.one-a.new.out = room_then (from_nodes T map) c.one-a.ensures w in
+    let a : c.line-a.result + length (from_nodes T map) ≤ length c.line-a.new.out = room_then (from_nodes T map) c.line-a.ensures w in
     let b : c.nodes-b.result + length (from_edges T map) ≤ length c.nodes-b.new.out = room_then (from_edges T map) c.nodes-b.ensures a in
     let d : c.edges-c.result + length (from_sites T map) ≤ length c.edges-c.new.out = room_then (from_sites T map) c.edges-c.ensures b in
     let e : c.sites-d.result + length (from_mutations T map) ≤ length c.sites-d.new.out = room_then (from_mutations T map) c.sites-d.ensures d in
@@ -65,7 +65,7 @@ mapping-requires c = let T : Tables = record { nodes = record { time = c.args.ti
     let map : List ℕ = c.args.map.now in
     let n : Narrow T map = record { time = λ i. omega (arith, c.type_inv.time i); birth = λ i. omega (arith, c.type_inv.birth i); population = λ i. omega (arith, c.type_inv.population i); left = λ i. omega (arith, c.type_inv.left i); right = λ i. omega (arith, c.type_inv.right i); parent = λ i. omega (arith, c.type_inv.parent i); child = λ i. omega (arith, c.type_inv.child i); position = λ i. omega (arith, c.type_inv.position i); ancestral = λ i. omega (arith, c.type_inv.ancestral i); site = λ i. omega (arith, c.type_inv.site i); node = λ i. omega (arith, c.type_inv.node i); derived = λ i. omega (arith, c.type_inv.derived i); row = λ i. omega (arith, c.type_inv.map i) } in
     let w : 0 + length (numbers 81 (c.args.len ∷ []) ++ from_nodes T map) ≤ length c.args.out.now = room_whole c.args.len T map (length c.args.out.now) (omega (arith, c.ranges.len)) n (omega arith) (omega arith) c.requires in
-    let a : c.one-a.result + length (from_nodes T map) ≤ length c.one-a.new.out = room_then (from_nodes T map) c.one-a.ensures w in
+    let a : c.line-a.result + length (from_nodes T map) ≤ length c.line-a.new.out = room_then (from_nodes T map) c.line-a.ensures w in
     let b : c.nodes-b.result + length (from_edges T map) ≤ length c.nodes-b.new.out = room_then (from_edges T map) c.nodes-b.ensures a in
     let d : c.edges-c.result + length (from_sites T map) ≤ length c.edges-c.new.out = room_then (from_sites T map) c.edges-c.ensures b in
     let e : c.sites-d.result + length (from_mutations T map) ≤ length c.sites-d.new.out = room_then (from_mutations T map) c.sites-d.ensures d in
@@ -74,4 +74,4 @@ mapping-requires c = let T : Tables = record { nodes = record { time = c.args.ti
 pub returns : goal.returns
 returns c = let T : Tables = record { nodes = record { time = c.args.time.now; birth = c.args.birth.now; population = c.args.population.now }; edges = record { left = c.args.left.now; right = c.args.right.now; parent = c.args.parent.now; child = c.args.child.now }; sites = record { position = c.args.position.now; ancestral = c.args.ancestral.now }; muts = record { site = c.args.site.now; node = c.args.node.now; derived = c.args.derived.now } } in
     let map : List ℕ = c.args.map.now in
-    wrote_front (wrote_as (sym (listed_pieces c.args.len T map)) (wrote_then c.one-a.ensures (wrote_then c.nodes-b.ensures (wrote_then c.edges-c.ensures (wrote_then c.sites-d.ensures (wrote_then c.mutations-e.ensures c.mapping.ensures))))))
+    wrote_front (wrote_as (sym (listed_pieces c.args.len T map)) (wrote_then c.line-a.ensures (wrote_then c.nodes-b.ensures (wrote_then c.edges-c.ensures (wrote_then c.sites-d.ensures (wrote_then c.mutations-e.ensures c.mapping.ensures))))))

@@ -5,13 +5,13 @@ use Rattle.listing.proofs.Writing.{wrote_as, room_as}
 use Rattle.listing.proofs.put.out_row.Goals as goal
 
 pub byte-requires : goal.byte-requires
-byte-requires c = room_as c.args.at c.args.out.now (out_none c.args.row c.if-row-eq4294967295.true) c.requires
+byte-requires c = room_as c.args.at c.args.out.now (out_none c.args.row c.if-row.true) c.requires
 
-pub returns-then-row-eq4294967295 : goal.returns-then-row-eq4294967295
-returns-then-row-eq4294967295 c = wrote_as (sym (out_none c.args.row c.if-row-eq4294967295.true)) c.byte.ensures
+pub returns-then-row : goal.returns-then-row
+returns-then-row c = wrote_as (sym (out_none c.args.row c.if-row.true)) c.byte.ensures
 
 pub number-requires : goal.number-requires
-number-requires c = room_as c.args.at c.args.out.now (out_some c.args.row c.if-row-eq4294967295.false) c.requires
+number-requires c = room_as c.args.at c.args.out.now (out_some c.args.row c.if-row.false) c.requires
 
 pub returns : goal.returns
-returns c = wrote_as (sym (out_some c.args.row c.if-row-eq4294967295.false)) c.number.ensures
+returns c = wrote_as (sym (out_some c.args.row c.if-row.false)) c.number.ensures

@@ -1,5 +1,4 @@
 -- `listing::tables::edges` meets its contract: the loop has written the rows that it has passed. Assumes nothing.
-use Prim.Native.Nat.{◌-◌}
 use lib.ListN.{length}
 use Rattle.meaning.specs.Printed.{edge_line}
 use Rattle.listing.proofs.Going.{Going}
@@ -7,6 +6,3 @@ use Rattle.listing.proofs.tables.edges.Given as goal
 
 abbrev pub invariant-loop-i : goal.invariant-loop-i
 invariant-loop-i l = Going (edge_line (record { left = l.left; right = l.right; parent = l.parent; child = l.child })) (length l.left) l.start l.initial.out l.out l.at l.i
-
-abbrev pub decreases-loop-i : goal.decreases-loop-i
-decreases-loop-i l = length l.left - l.i

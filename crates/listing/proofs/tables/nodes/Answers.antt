@@ -1,5 +1,4 @@
 -- `listing::tables::nodes` meets its contract: the loop has written the rows that it has passed. Assumes nothing.
-use Prim.Native.Nat.{◌-◌}
 use lib.ListN.{length}
 use Rattle.meaning.specs.Printed.{node_line}
 use Rattle.listing.proofs.Going.{going_start, going_room, going_more, going_end}
