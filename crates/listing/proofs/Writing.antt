@@ -84,3 +84,7 @@ unfolding lay put
 wrote_front {r} {new} {old} {out} w =
     let q : 0 + length new ≡ length new = omega arith in
     record { count = w.next ∙ q; fits = omega (arith, w.next, w.fits); cells = w.cells ∙ ap (λ j. new ++ drop j old) q }
+
+-- the bytes of a page are those that were lent
+pub printed_on : {r : ℕ} {new old out lent : List ℕ} → Printed new old out r → lent ≡ out → Printed new old lent r
+printed_on {r} {new} {old} {out} {lent} p e = record { count = p.count; fits = p.fits; cells = e ∙ p.cells }
