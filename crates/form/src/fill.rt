@@ -21,7 +21,8 @@ pub fn get32(s: &[u8], at: usize) -> u32
     u32::from_le_bytes([s[at], s[at + 1], s[at + 2], s[at + 3]])
 }
 
-// A column from a field of four bytes; the first stands at an offset, each next one a step further on.
+// A column from a field of four bytes; the first stands at an offset, each next one a step further on. There is one function for
+// each width, since fields of two and of four bytes fill cells of one type, which so does not tell the width.
 pub fn fill32(s: &[u8], start: usize, step: usize, n: usize, out: &mut [u32])
     requires { Fields 4 s.now start step n × (n ≤ length out.old) }
     ensures { out.new ≡ put (rows (λ i. number 4 s.now (start + i * step)) n) out.old }

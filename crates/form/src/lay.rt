@@ -54,7 +54,7 @@ fn sample_row(at: usize, birth: u32, out: &mut [u8])
     put32(p, birth, out);
 }
 
-// The records of all samples; the offset after them.
+// The records of all samples; the offset after them. There is one loop for each kind, since each has its own columns and widths.
 pub fn samples(birth: &[u32], start: usize, out: &mut [u8]) -> usize
     requires { start + length birth.now * 6 ≤ length out.old }
     ensures { (result ≡ start + length birth.now * 6) × (out.new ≡ lay start (records_from (SA stored_limits) (birth.now ∷ []) 0 (length birth.now)) out.old) }

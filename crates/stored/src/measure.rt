@@ -114,7 +114,7 @@ pub fn first_wide(a: &[u32], b: &[u32]) -> Option<usize>
     None
 }
 
-// The lowest row whose population is not 0, for which a file has no field.
+// The lowest row whose population is not 0, for which a file has no field. With `position` a goal is left that takes a law more.
 pub fn first_populated(population: &[u16]) -> Option<usize>
     ensures { result ≡ lowest_row (populated population.now) (length population.now) }
 {
