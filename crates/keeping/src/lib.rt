@@ -42,10 +42,9 @@ pub fn sample_rows(
 {
     unmark(sample);
     for i in 0..samples.len() {
-        if let Some(r) = order::ranks::row_of(birth, by_birth, samples[i]) {
-            srow[i] = r as u32;
-            sample[r] = 1;
-        }
+        let r = order::ranks::row_of(birth, by_birth, samples[i]).unwrap();
+        srow[i] = r as u32;
+        sample[r] = 1;
     }
 }
 
@@ -54,7 +53,10 @@ fn is_other(stood: &[u8], sample: &[u8], u: usize) -> bool
     requires { (u < length stood.now) × (u < length sample.now) }
     ensures { result ≡ other stood.now sample.now u }
 {
-    stood[u] == 1 && sample[u] == 0
+    if stood[u] == 1 {
+        return sample[u] == 0;
+    }
+    false
 }
 
 // Collects the rows that stand somewhere and are no samples, in row order, and counts them.
