@@ -8,7 +8,7 @@ ghost use Rattle.tree.specs.TreeAt.{columns, Flags, TreeAt};
 use super::edge::{insert_up, remove_up};
 
 // How far a sweep has come: edges begun in the order of left, edges ended in the order of right, and rows listed.
-#[derive(Drop)]
+#[derive(Clone, Copy, Debug, PartialEq, Eq)]
 pub struct Cursor {
     pub begun: usize,
     pub ended: usize,
@@ -48,9 +48,8 @@ fn end_edges(
         listed.new k0 result.touched ×
         (j0 ≤ result.ended) }
 {
-    let mut j = j0;
     let mut k = k0;
-    while j < br.len() {
+    for j in j0..br.len() {
         let e = br[j];
         if x < right[e as usize] {
             return Cursor {
@@ -72,11 +71,10 @@ fn end_edges(
             k,
             child[e as usize],
         );
-        j += 1;
     }
     Cursor {
         begun: i,
-        ended: j,
+        ended: br.len(),
         touched: k,
     }
 }
@@ -115,9 +113,8 @@ fn begin_edges(
         (i0 ≤ result.begun) ×
         (result.ended ≡ j) }
 {
-    let mut i = i0;
     let mut k = k0;
-    while i < bl.len() {
+    for i in i0..bl.len() {
         let e = bl[i];
         if x < left[e as usize] {
             return Cursor {
@@ -140,10 +137,9 @@ fn begin_edges(
             child[e as usize],
             above[e as usize],
         );
-        i += 1;
     }
     Cursor {
-        begun: i,
+        begun: bl.len(),
         ended: j,
         touched: k,
     }
@@ -187,11 +183,9 @@ pub fn advance(
         time, sample, parent, count, sum, low, up, touched, listed, left, right, above, child, bl,
         br, i, j, 0, x,
     );
-    let ended = a.ended;
-    let k = a.touched;
     begin_edges(
         time, sample, parent, count, sum, low, up, touched, listed, left, right, above, child, bl,
-        br, i, ended, k, x,
+        br, i, a.ended, a.touched, x,
     )
 }
 
@@ -204,11 +198,7 @@ fn next_key(key: &[u32], b: &[u32], i: usize, most: u32) -> u32
         return most;
     }
     let e = b[i];
-    let v = key[e as usize];
-    if v < most {
-        return v;
-    }
-    most
+    key[e as usize].min(most)
 }
 
 // The next position where an edge begins or ends, or len.

@@ -12,27 +12,6 @@ use super::NONE;
 use mend::alive;
 use order::iota;
 
-// Every cell is v.
-fn fill(column: &mut [u32], v: u32)
-    ensures { Filled column.new (length column.old) v }
-{
-    let mut i = 0;
-    while i < column.len() {
-        column[i] = v;
-        i += 1;
-    }
-}
-
-// Every time is below 2^32, as its type says; the answer is the first.
-fn first_time(time: &[u32]) -> u32
-    ensures { (u : ℕ) → u < length time.now → get_or time.now u 0 < W }
-{
-    if time.len() == 0 {
-        return 0;
-    }
-    time[0]
-}
-
 // The columns with no edge: a sweep starts so, before every edge. A live row is then a sample, and leads to itself.
 pub fn start(
     time: &[u32],
@@ -51,12 +30,11 @@ pub fn start(
         Swept time.now sample.now parent.new count.new sum.new low.new up.new
         l r pa ch bl br 0 0 0 }
 {
-    first_time(time);
-    fill(parent, NONE);
-    fill(count, 0);
-    fill(sum, 0);
+    parent.fill(NONE);
+    count.fill(0);
+    sum.fill(0);
     iota(low);
-    fill(up, NONE);
+    up.fill(NONE);
 }
 
 // The nearest standing row at or below u, or none where u is not reached.
