@@ -2,21 +2,19 @@
 use mathlib.Core.Path.{◌≡◌, refl, sym, ap, subst, ◌∙◌}
 use mathlib.Core.Bool.{Bool, true, false}
 use mathlib.Core.List.{List}
-use mathlib.Core.Option.{none}
 use mathlib.Core.Logic.{◌⊎◌, inl, inr, ⊎_elim}
 use Prim.Native.Nat.{ℕ, min, zero, suc, ◌+◌, ◌%◌, ◌<◌, ◌≤◌}
 use native.Mathlib.Omega.{arith}
 use borrow.Author.Tests.{lt-ltb, le-ltb, ne_eqb}
-use lib.ListN.{length, get_or, set}
-use lib.Seq.{get_or-set_same, get_or-set_other}
-use Rattle.meaning.specs.Words.{and, rows}
+use lib.ListN.{length, get_or}
+use Rattle.meaning.specs.Words.{rows}
 use Rattle.mend.specs.Right as right
 use Rattle.mend.specs.Right.{W, total, one, row, live, stands, feeds, Grows}
 use Rattle.mend.specs.Line.{par_of, Low, here, root}
 use Rattle.mend.specs.Kept.{Mended, Kept, Filled}
 use Rattle.tree.specs.Sweep.{Index, Cut, Ahead, seen, Plan, Between, Swept, next_key, next_change}
 use Rattle.mend.proofs.Reading.{lt?, live_cases, stands_sample, no_parent, opt_none}
-use Rattle.laws.specs.Bools.{clash, eq?}
+use Rattle.laws.specs.Bools.{clash}
 use Rattle.laws.specs.Counting.{length_rows, get_rows}
 use Rattle.tree.proofs.Reaching.{no_row, no_life}
 use Rattle.tree.proofs.Seeing.{not_begun}

@@ -1,12 +1,12 @@
 // The columns at one position: the start, with no edge, and the nearest standing row below.
-ghost use Rattle.std.specs.Prelude.{◌≡◌, List, ℕ, ◌<◌, length, get_or};
+ghost use Rattle.std.specs.Prelude.{◌≡◌, List, ℕ, ◌<◌, length, IfSome};
 ghost use Rattle.meaning.specs.Rows.{EdgeColumns};
-ghost use Rattle.bridge.specs.Parents.{parent_row, code};
-ghost use Rattle.mend.specs.Right.{W, Shape};
+ghost use Rattle.bridge.specs.Parents.{parent_row};
+ghost use Rattle.mend.specs.Right.{Shape};
 ghost use Rattle.mend.specs.Line.{par_of};
-ghost use Rattle.mend.specs.Kept.{Mended, LowOk, Filled};
+ghost use Rattle.mend.specs.Kept.{Mended, LowOk};
 ghost use Rattle.tree.specs.Sweep.{Plan, Swept};
-ghost use Rattle.tree.specs.TreeAt.{low_at, Flags};
+ghost use Rattle.tree.specs.TreeAt.{low_at, row_given, Flags};
 
 use super::NONE;
 use mend::alive;
@@ -37,7 +37,7 @@ pub fn start(
     up.fill(NONE);
 }
 
-// The nearest standing row at or below u, or none where u is not reached.
+// The nearest standing row at or below u, where u is reached.
 pub fn low_at(
     time: &[u32],
     sample: &[u8],
@@ -46,17 +46,18 @@ pub fn low_at(
     sum: &[u32],
     low: &[u32],
     u: u32,
-) -> u32
+) -> Option<u32>
     requires { Mended time.now sample.now parent.now count.now sum.now ×
         LowOk sample.now parent.now count.now low.now ×
         (u < length parent.now) }
-    ensures { (E : EdgeColumns) (Q : List ℕ) (x : ℕ) →
+    ensures row { IfSome result (λ w. w < length parent.now) }
+    ensures low { (E : EdgeColumns) (Q : List ℕ) (x : ℕ) →
         Flags sample.now Q (length parent.now) →
         par_of parent.now ≡ parent_row E x →
-        result ≡ code (low_at E Q (length parent.now) x u) }
+        result ≡ row_given (low_at E Q (length parent.now) x u) }
 {
     if alive(sample, count, u) {
-        return low[u as usize];
+        return Some(low[u as usize]);
     }
-    NONE
+    None
 }

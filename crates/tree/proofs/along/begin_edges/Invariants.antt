@@ -1,6 +1,6 @@
 -- `tree::sweep::begin_edges` meets its contract: each turn begins the edge at the cursor.
 use mathlib.Core.Path.{◌≡◌}
-use Prim.Native.Nat.{◌+◌, ◌-◌, ◌≤◌}
+use Prim.Native.Nat.{◌+◌}
 use lib.ListN.{length}
 use Rattle.mend.specs.Kept.{Kept}
 use Rattle.mend.specs.Listing.{Noted}

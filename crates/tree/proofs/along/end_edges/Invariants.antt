@@ -1,6 +1,6 @@
 -- `tree::sweep::end_edges` meets its contract: each turn ends the edge at the cursor.
 use mathlib.Core.Path.{◌≡◌}
-use Prim.Native.Nat.{◌+◌, ◌-◌, ◌≤◌}
+use Prim.Native.Nat.{◌+◌}
 use lib.ListN.{length}
 use Rattle.mend.specs.Kept.{Kept}
 use Rattle.mend.specs.Listing.{Noted}

@@ -1,5 +1,5 @@
 -- `tree::along::next_key` meets its contract.
-use Rattle.std.proofs.Common.{sym, ◌∙◌, arith, rules}
+use Rattle.std.proofs.Common.{sym, ◌∙◌}
 use Rattle.tree.proofs.Moving.{key_past, key_least}
 use Rattle.tree.proofs.along.next_key.Goals as goal
 
