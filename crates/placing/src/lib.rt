@@ -22,10 +22,11 @@ fn keep(mrow: &mut [u32], mlow: &mut [u32], k: usize, m: u32, w: Option<u32>) ->
     let Some(r) = w else {
         return k;
     };
-    if k < mrow.len() {
-        mrow[k] = m;
-        mlow[k] = r;
+    if mrow.len() <= k {
+        return k + 1;
     }
+    mrow[k] = m;
+    mlow[k] = r;
     k + 1
 }
 

@@ -1,8 +1,8 @@
 -- `placing::place` meets its contract: each turn gives one mutation its nearest standing row.
 use Rattle.std.proofs.Common.{◌≡◌, ℕ, length, Option, unwrap_or, sym, ap, ◌∙◌}
+use Rattle.std.proofs.lemmas.Option.{IfSome_then}
 use Rattle.tree.specs.TreeAt.{given_cell}
 use native.Mathlib.Omega.{arith}
-use borrow.Author.Rules.{rules}
 use Rattle.placing.proofs.Giving.{none_given, one_given}
 use Rattle.placing.proofs.place.Goals as goal
 
@@ -25,7 +25,11 @@ pub overflow_cast-m : goal.overflow_cast-m
 overflow_cast-m c = omega (arith, c.requires.2.numbered, c.loop-m-test.true)
 
 pub keep-k-requires : goal.keep-k-requires
-keep-k-requires c = (omega (arith, c.requires.2.even, c.loop-m.invariant.beyond.rows_long, c.loop-m.invariant.beyond.lows_long), omega (arith, c.requires.2.numbered, c.loop-m-test.true, c.loop-m.invariant.few))
+keep-k-requires c = (
+  omega (arith, c.requires.2.even, c.loop-m.invariant.beyond.rows_long, c.loop-m.invariant.beyond.lows_long),
+  omega (arith, c.requires.2.numbered, c.loop-m-test.true, c.loop-m.invariant.few),
+  IfSome_then c.low_at-w.result c.low_at-w.ensures.row (λ r l. omega (arith, l, c.requires.0.shape.rows)),
+)
 
 pub loop-m-preserved : goal.loop-m-preserved
 loop-m-preserved c = one_given _ c.loop-m.invariant c.keep-k.ensures c.loop-m-test.true c.if-next-position.false (λ E Q x fl is. ap (λ (w : Option ℕ). unwrap_or w 4294967295) (c.low_at-w.ensures.low E Q x fl is) ∙ given_cell _)

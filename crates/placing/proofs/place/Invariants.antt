@@ -1,6 +1,4 @@
 -- `placing::place` meets its contract: each turn gives one mutation its nearest standing row.
-use Prim.Native.Nat.{◌-◌}
-use lib.ListN.{length}
 use Rattle.placing.specs.Placing.{Between}
 use Rattle.placing.proofs.place.Given as goal
 
