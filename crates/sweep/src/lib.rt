@@ -211,7 +211,7 @@ fn walk(
 }
 
 // Sweeps along the chromosome: the finished edges of all output parents, and the mutations that move with their nearest standing rows, each
-// written while there are cells, and counted in any case.
+// written while there are cells, and counted in any case. The columns come apart, as the caller has them: their lifetimes are one.
 pub fn sweep<'a>(
     len: u32,
     time: &'a [u32],

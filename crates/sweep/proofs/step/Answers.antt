@@ -1,6 +1,6 @@
 -- `sweep::step` meets its contract: what each call asks follows from what the calls before it left, and all of them bring the sweep to the
 -- next change.
-use mathlib.Core.Path.{refl, ◌∙◌}
+use mathlib.Core.Path.{refl}
 use Rattle.tree.proofs.Moving.{lefts_index, rights_index}
 use Rattle.sweep.proofs.Stepping.{advance_ready, settle_ready, place_ready}
 use Rattle.sweep.proofs.Coming.{came}

@@ -1,5 +1,5 @@
 -- `sweep::sweep` meets its contract: with cleared columns the walk starts with no finished edge.
-use mathlib.Core.Path.{refl, ◌∙◌}
+use mathlib.Core.Path.{refl}
 use mathlib.Core.List.{[]}
 use Rattle.mend.specs.Kept.{filled}
 use Rattle.sweep.proofs.Starting.{room_cleared, steady_start, going_start}
