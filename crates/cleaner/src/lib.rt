@@ -17,24 +17,25 @@ mod sound;
 mod store;
 mod trace;
 
+use meaning::columns::Lent;
 use meaning::{Counts, EdgeTable, NodeTable, Refusal};
 
 // 01's cleaning call, the check of the tables and then the cleaning, for a caller whose block takes so many cells:
 // under four is 13, row 7, before anything is written.
-pub fn clean(
+pub fn clean<'a>(
     len: u32,
-    time: &[u32],
-    birth: &[u32],
-    population: &[u16],
-    left: &[u32],
-    right: &[u32],
-    parent: &[u32],
-    child: &[u32],
-    position: &[u32],
-    ancestral: &[u8],
-    site: &[u32],
-    node: &[u32],
-    derived: &[u8],
+    time: &'a [u32],
+    birth: &'a [u32],
+    population: &'a [u16],
+    left: &'a [u32],
+    right: &'a [u32],
+    parent: &'a [u32],
+    child: &'a [u32],
+    position: &'a [u32],
+    ancestral: &'a [u8],
+    site: &'a [u32],
+    node: &'a [u32],
+    derived: &'a [u8],
     samples: &[u32],
     out_time: &mut [u32],
     out_birth: &mut [u32],
@@ -72,8 +73,7 @@ pub fn clean(
     let mut by_child = [0u32; EdgeTable::MOST];
     let mut by_birth = [0u32; NodeTable::MOST];
     let m = birth.len();
-    checker::check_all_lent(
-        len,
+    let lent = Lent {
         time,
         birth,
         population,
@@ -86,10 +86,8 @@ pub fn clean(
         site,
         node,
         derived,
-        samples,
-        &mut by_child,
-        &mut by_birth,
-    )?;
+    };
+    checker::check_all_lent(len, lent, samples, &mut by_child, &mut by_birth)?;
     sound::clean_sound(
         len,
         time,

@@ -14,10 +14,8 @@ fn iota_down(idx: &mut [u32])
     ensures { idx.new ≡ rows (λ i. length idx.old - (i + 1)) (length idx.old) }
 {
     let n = idx.len();
-    let mut i = 0;
-    while i < n {
+    for i in 0..n {
         idx[i] = (n - (i + 1)) as u32;
-        i += 1;
     }
 }
 
