@@ -34,13 +34,7 @@ fn site_broken_at(len: u32, position: &[u32], i: usize) -> bool
     requires { i < length position.now }
     ensures { result ≡ site_broken len position.now i }
 {
-    if len <= position[i] {
-        return true;
-    }
-    if i == 0 {
-        return false;
-    }
-    position[i] <= position[i - 1]
+    len <= position[i] || (i > 0 && position[i] <= position[i - 1])
 }
 
 // 8: the lowest site that lies past the chromosome or not above the site before.

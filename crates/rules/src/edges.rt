@@ -61,10 +61,7 @@ fn unordered_at(ages: Ages, edges: EdgeColumns, i: usize) -> bool
     requires { (i < length edges.left.now) × NamedNodes (ages_in ages) (edges_in edges) }
     ensures { result ≡ edge_unordered (ages_in ages.entry) (edges_in edges.entry) i }
 {
-    if i == 0 {
-        return false;
-    }
-    !key_below(ages, edges, i - 1, i)
+    i > 0 && !key_below(ages, edges, i - 1, i)
 }
 
 // 6: the lowest edge whose key is not above that of the row before.

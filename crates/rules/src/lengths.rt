@@ -73,8 +73,5 @@ pub fn large_table(rows: Counts) -> Option<usize>
 pub fn length_broken(len: u32) -> bool
     ensures { result ≡ length_broken len }
 {
-    if len == 0 {
-        return true;
-    }
-    Chromosome::LONGEST < len
+    len == 0 || Chromosome::LONGEST < len
 }

@@ -7,6 +7,6 @@ pub returns-then-len-eq0 : goal.returns-then-len-eq0
 unfolding length_broken
 returns-then-len-eq0 c = simp (eq-eqb _ _ c.if-len-eq0.true)
 
-pub returns : goal.returns
+pub returns-else-len-eq0 : goal.returns-else-len-eq0
 unfolding length_broken
-returns c = simp (ne_eqb _ _ c.if-len-eq0.false)
+returns-else-len-eq0 c = simp (ne_eqb _ _ c.if-len-eq0.false)
