@@ -16,10 +16,7 @@ use meaning::{Counts, Refusal, SampleTable};
 pub fn lengths_checked(lent: Lent) -> Result<Tables, Refusal>
     ensures { LengthsTold lent.entry result }
 {
-    let tables = match rules::lengths::even(lent) {
-        Ok(tables) => tables,
-        Err(table) => return Err(Refusal::Ragged(table)),
-    };
+    let tables = rules::lengths::even(lent).map_err(Refusal::Ragged)?;
     let rows = Counts {
         nodes: tables.ages.time.len(),
         edges: tables.edges.left.len(),

@@ -41,6 +41,7 @@ fn rules_checked(
 }
 
 // 1 to 10; the fronts of by_child and by_birth are left with the edges by child and the nodes by birth where nothing is refused.
+// The two columns stay as they are lent, since a caller reads them afterwards: a struct round them would have to say whose they are.
 pub fn check_lent(
     len: u32,
     lent: Lent,

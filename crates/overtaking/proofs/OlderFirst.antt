@@ -1,5 +1,5 @@
 -- Where each site's mutations stand older first, none is above an earlier one: an ancestor is older.
-use mathlib.Core.Path.{◌≡◌, refl, sym, ap, ◌∙◌}
+use mathlib.Core.Path.{◌≡◌, refl, sym, ap}
 use mathlib.Core.Bool.{Bool, true, false, not}
 use mathlib.Core.List.{List}
 use mathlib.Core.Logic.{⊎_elim}
@@ -9,11 +9,12 @@ use lib.Dec.{eqb, ltb}
 use lib.ListN.{length}
 use borrow.Author.Tests.{eqb-true, ltb-false}
 use Rattle.std.specs.Prelude.{None}
+use Rattle.std.specs.List.{list_any, range_with_len}
 use Rattle.meaning.specs.Words.{and, at, any_below, lowest_row}
 use Rattle.meaning.specs.Rows.{EdgeColumns}
 use Rattle.meaning.specs.Forest.{Ages, ancestor}
-use Rattle.laws.specs.Bools.{clash, eq?, and_of, not_true}
-use Rattle.laws.specs.Counting.{below_miss, below_of, below_none, of_below, lowest_found}
+use Rattle.laws.specs.Bools.{bool_ext, clash, eq?, and_of, not_true}
+use Rattle.laws.specs.Counting.{below_of, of_below, lowest_found}
 use Rattle.bridge.specs.Parents.{parent_row}
 use Rattle.ancestry.specs.Column.{Rising}
 use Rattle.overtaking.specs.Sites.{ends_site, younger_first, some_younger_first}
@@ -32,19 +33,29 @@ module _ (time site node : List ℕ) where
   unfolding younger_first
   inner_older i e h q = let p : i + 1 ≡ suc i = omega arith in rw (sym h) (rw q (ap (λ j. ltb (at time (at node i)) (at time (at node j))) p))
 
-  pub some_found : (i : ℕ) → i < length site → younger_first time site node i ≡ true → true ≡ some_younger_first time site node
-  unfolding some_younger_first
-  some_found i l h = sym (of_below (younger_first time site node) (length site) i l h)
+module _ (f : ℕ → Bool) where
+  hit_of : (n a : ℕ) → list_any f (range_with_len a n) ≡ true → (j : ℕ) × (j < a + n) × (f j ≡ true)
+  hit_of zero a h = absurd (clash h refl)
+  hit_of (suc n) a h = go (f a) refl (λ q. hit_of n (a + 1) q)
+    where
+      go : (t : Bool) → f a ≡ t → (list_any f (range_with_len (a + 1) n) ≡ true → (j : ℕ) × (j < a + 1 + n) × (f j ≡ true)) → (j : ℕ) × (j < a + suc n) × (f j ≡ true)
+      go true e ih = (a, omega arith, e)
+      go false e ih = let r : _ = ih (rw e at h) in (r.0, omega (arith, r.1), r.2)
 
-  pub some_start : any_below (younger_first time site node) 0 ≡ false
-  some_start = below_none (younger_first time site node)
+  of_hit : (n a j : ℕ) → a ≤ j → j < a + n → f j ≡ true → list_any f (range_with_len a n) ≡ true
+  of_hit zero a j k l h = absurd (omega arith)
+  of_hit (suc n) a j k l h = go (f a) refl (λ p q. of_hit n (a + 1) j p q h)
+    where
+      go : (t : Bool) → f a ≡ t → (a + 1 ≤ j → j < a + 1 + n → list_any f (range_with_len (a + 1) n) ≡ true) → list_any f (range_with_len a (suc n)) ≡ true
+      go true e ih = rw e refl
+      go false e ih = rw e (⊎_elim (λ (q : a ≡ j). absurd (clash (rw (sym q) at h) e)) (λ (q : a ≡ j → ⊥). ih (omega arith) (omega arith)) (eq? a j))
 
-  pub some_miss : (i : ℕ) → younger_first time site node i ≡ false → any_below (younger_first time site node) i ≡ false → any_below (younger_first time site node) (i + 1) ≡ false
-  some_miss i h e = let q : i + 1 ≡ suc i = omega arith in ap (any_below (younger_first time site node)) q ∙ below_miss (younger_first time site node) i h ∙ e
-
-  pub some_none : (i : ℕ) → i ≤ length site → length site ≤ i → any_below (younger_first time site node) i ≡ false → false ≡ some_younger_first time site node
-  unfolding some_younger_first
-  some_none i a b e = let q : i ≡ length site = omega arith in sym e ∙ ap (any_below (younger_first time site node)) q
+-- the rows gone over are all
+pub some_in_range : (time site node : List ℕ) → list_any (younger_first time site node) (range_with_len 0 (length site)) ≡ some_younger_first time site node
+unfolding some_younger_first
+some_in_range time site node = bool_ext
+    (λ h. let r : _ = hit_of (younger_first time site node) (length site) 0 h in of_below (younger_first time site node) (length site) r.0 (omega (arith, r.1)) r.2)
+    (λ h. let r : _ = below_of (younger_first time site node) (length site) h in of_hit (younger_first time site node) (length site) 0 r.0 (omega arith) (omega (arith, r.1)) r.2)
 
 -- ---- none is above an earlier one
 

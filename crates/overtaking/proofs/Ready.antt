@@ -13,7 +13,7 @@ use Rattle.meaning.specs.Rows.{EdgeColumns}
 use Rattle.meaning.specs.Forest.{ancestor}
 use Rattle.laws.specs.Bools.{clash, bool_ext, or_of, or_left, or_right}
 use Rattle.bridge.specs.Parents.{parent_row}
-use Rattle.overtaking.specs.Stamps.{stamped, StampedBut, Stampable, StampedUp}
+use Rattle.overtaking.specs.Stamps.{stamped, StampedBut, StampedUp}
 use Rattle.overtaking.specs.Sites.{ends_site, From}
 use Rattle.overtaking.specs.Bounds.{Bounded}
 use Rattle.overtaking.specs.Overtaken.{over, overtaken, Lined, Ordered, Working, Ready, ReadyNext, Going, Gone}
@@ -135,9 +135,6 @@ module _ {time : List ℕ} {E : EdgeColumns} {position site node : List ℕ} whe
       pub own_stamp : i < length site → eqb (at stamps (at node i)) (at site i + 1) ≡ overtaken E position site node i
       unfolding overtaken stamped
       own_stamp l = bool_ext (g.ready.only (at node i)) (g.ready.all i (at node i) (record { after = omega arith; row = l; own = refl }) (omega arith))
-
-pub stampable_node : {time : List ℕ} {E : EdgeColumns} {position site node : List ℕ} {i : ℕ} {ends par stamps : List ℕ} → Ordered time position site node → Working time E ends par stamps → i < length site → Stampable time E stamps (at node i)
-stampable_node {i = i} ok w l = record { rising = w.rising; few = ok.few; long = w.stamps_long; row = ok.lined.node_row i l }
 
 -- working columns of the same length will do
 pub still_working : {time : List ℕ} {E : EdgeColumns} {ends par stamps par' stamps' : List ℕ} → length par' ≡ length par → length stamps' ≡ length stamps → Working time E ends par stamps → Working time E ends par' stamps'

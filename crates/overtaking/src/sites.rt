@@ -55,11 +55,6 @@ impl<'a> BySite<'a> {
     pub fn some_younger_first(self) -> bool
         ensures { result ≡ some_younger_first self.entry.time.now self.entry.site.now self.entry.node.now }
     {
-        for i in 0..self.site.len() {
-            if self.younger_first(i) {
-                return true;
-            }
-        }
-        false
+        (0..self.site.len()).any(|i| self.younger_first(i))
     }
 }

@@ -1,16 +1,16 @@
--- `some_younger_first` meets its contract: no row gone over is younger than the next of its site.
-use mathlib.Core.Path.{sym, ◌∙◌}
-use Rattle.overtaking.proofs.OlderFirst.{some_found, some_start, some_miss, some_none}
+-- `some_younger_first` meets its contract: the rows are gone over.
+use mathlib.Core.Path.{refl, ◌∙◌}
+use lib.ListN.{length}
+use native.Mathlib.Omega.{arith}
+use borrow.Author.Rules.{rules}
+use borrow.Author.Tests.{tests}
+use Rattle.std.proofs.lemmas.Iterator.{YieldsList-from_range}
+use Rattle.std.proofs.lemmas.Iterator.Search.{any_from_yields_List}
+use Rattle.overtaking.specs.Sites.{younger_first}
+use Rattle.overtaking.proofs.OlderFirst.{some_in_range}
 use Rattle.overtaking.proofs.sites.BySite.some_younger_first.Goals as goal
 
-pub loop-i-init : goal.loop-i-init
-loop-i-init c = some_start _ _ _
-
-pub returns-then-younger_first : goal.returns-then-younger_first
-returns-then-younger_first c = some_found _ _ _ _ c.loop-i-test.true (sym c.younger_first.ensures ∙ c.if-younger_first.true)
-
-pub loop-i-preserved : goal.loop-i-preserved
-loop-i-preserved c = some_miss _ _ _ _ (sym c.younger_first.ensures ∙ c.if-younger_first.false) c.loop-i.invariant
-
 pub returns : goal.returns
-returns c = some_none _ _ _ _ c.loop-i.auto.i-end c.loop-i-test.false c.loop-i.invariant
+returns c =
+    let s = c.args.self in
+    any_from_yields_List (younger_first s.time.now s.site.now s.node.now) _ _ _ c.any.ensures.ran (YieldsList-from_range 0 (length s.site.now) (length s.site.now) refl (omega arith)) (λ x b q k. search (rules, tests)) ∙ some_in_range s.time.now s.site.now s.node.now
