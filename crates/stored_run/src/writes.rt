@@ -1,6 +1,5 @@
 // Writes by hand, and what is answered: the refusals of a write in their order, and just room.
-use crate::due::{refusal, refused};
-use crate::reads::front32;
+use cases::front;
 use std::io;
 use stored::WriteAnswer;
 
@@ -24,8 +23,8 @@ fn wrote(
     let answer = stored::write(
         10,
         samples,
-        front32(&t, times),
-        front32(&t, births),
+        front(&t, times),
+        front(&t, births),
         population,
         &one,
         &one,
@@ -38,12 +37,13 @@ fn wrote(
         &state,
         out,
     );
-    let s = match answer {
-        WriteAnswer::Done(_) => refusal(0, 0),
-        WriteAnswer::Refused(x) => refused(x),
+    let (number, row) = match answer {
+        WriteAnswer::Done(_) => (0, 0),
+        WriteAnswer::Refused(x) => {
+            let t = meaning::tell(x);
+            (t.number, t.row)
+        }
     };
-    let number = s.number;
-    let row = s.row;
     rt.write_all(what)?;
     println!(rt; "{number} {row}")
 }
