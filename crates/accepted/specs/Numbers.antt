@@ -1,13 +1,9 @@
 -- No two of the code's answers have one number and row, so a promise by number and row is met by one answer only.
-use Rattle.std.specs.Prelude.{◌≡◌, refl, true, false, ℕ, eqb}
+use Rattle.std.specs.Prelude.{◌≡◌, refl, true, false, ℕ, eqb, Some, None, Ok, Err}
 use Rattle.std.proofs.Common.{sym, ap, ◌∙◌}
-use Rattle.meaning.specs.Answer.{Answer, Stated, accepted, refusal_of, checked_of, allele_of}
+use Rattle.meaning.specs.Answer.{Answer, Checked, Allele, Stated, accepted, refusal_of, checked_of, allele_of}
 use Rattle.meaning.specs.declared.Refusal.{Refusal}
 use Rattle.meaning.specs.declared.Refusal.TheVariants.{Ragged, TooMany, Length, BirthRepeated, EdgeBroken, EdgeOrder, EdgeShared, SiteBroken, MutationBroken, MutationAbove, SampleUnknown, SampleRepeated, NoRoom, BatchRagged, BatchTooMany, BatchBirth, BatchEdge, BatchShared, BatchMutation, BatchAbove, MarkWrong, BytesEnd, BytesFollow, RowsOver, EdgeWide, MutationWide, Populated, NoSite, NoBirth}
-use Rattle.meaning.specs.declared.Checked.{Checked}
-use Rattle.meaning.specs.declared.Checked.TheVariants as checked
-use Rattle.meaning.specs.declared.Allele.{Allele}
-use Rattle.meaning.specs.declared.Allele.TheVariants as allele
 
 -- x where the number is k, and else what comes after
 abbrev by : {A : Type 0} → ℕ → ℕ → A → A → A
@@ -87,12 +83,12 @@ refusal_one r s e = sym (named_is r).1 ∙ ap named e ∙ (named_is s).1
 -- ---- the check's answer
 
 abbrev checked_named : Answer → Checked
-checked_named a = elim (accepted a) [ true ↦ checked.Sound | false ↦ checked.Refused (named a) ]
+checked_named a = elim (accepted a) [ true ↦ Ok tt | false ↦ Err (named a) ]
 
 checked_is : (c : Checked) → checked_named (checked_of c) ≡ c
 unfolding accepted
-checked_is checked.Sound = refl
-checked_is (checked.Refused r) = rw (refusal_refuses r, checked_named) (ap checked.Refused (named_is r).1)
+checked_is (Ok _) = refl
+checked_is (Err r) = rw (refusal_refuses r, checked_named) (ap (λ (q : Refusal). Err q) (named_is r).1)
 
 pub checked_one : (c d : Checked) → checked_of c ≡ checked_of d → c ≡ d
 checked_one c d e = sym (checked_is c) ∙ ap checked_named e ∙ checked_is d
@@ -100,13 +96,13 @@ checked_one c d e = sym (checked_is c) ∙ ap checked_named e ∙ checked_is d
 -- ---- the allele call's answer
 
 abbrev allele_named : Stated → Allele
-allele_named a = elim (accepted a.answer) [ true ↦ elim a.missing [ true ↦ allele.Missing | false ↦ allele.State a.state ] | false ↦ allele.Refused (named a.answer) ]
+allele_named a = elim (accepted a.answer) [ true ↦ elim a.missing [ true ↦ Ok None | false ↦ Ok (Some a.state) ] | false ↦ Err (named a.answer) ]
 
 allele_is : (c : Allele) → allele_named (allele_of c) ≡ c
 unfolding accepted
-allele_is (allele.State s) = refl
-allele_is allele.Missing = refl
-allele_is (allele.Refused r) = rw (refusal_refuses r, allele_named) (ap allele.Refused (named_is r).1)
+allele_is (Ok (Some s)) = refl
+allele_is (Ok None) = refl
+allele_is (Err r) = rw (refusal_refuses r, allele_named) (ap (λ (q : Refusal). Err q) (named_is r).1)
 
 pub allele_one : (c d : Allele) → allele_of c ≡ allele_of d → c ≡ d
 allele_one c d e = sym (allele_is c) ∙ ap allele_named e ∙ allele_is d

@@ -6,8 +6,8 @@ use Prim.Native.Nat.{ℕ, ◌≤◌}
 use native.Mathlib.Omega.{arith}
 use lib.ListN.{length, take}
 use Rattle.meaning.specs.declared.Refusal.{Refusal}
-use Rattle.meaning.specs.declared.Checked.{Checked}
-use Rattle.meaning.specs.declared.Checked.TheVariants as checked
+use Rattle.meaning.specs.Answer.{Checked}
+use Rattle.std.specs.Prelude.{Ok, Err}
 use Rattle.meaning.specs.Rows.{Tables, Record, record_of, pos_of}
 use Rattle.meaning.specs.Forest.{Ages, near, parent_in}
 use Rattle.meaning.specs.Answer.{Answer, Stated, done, limits, refusal_of, checked_of, unread}
@@ -74,7 +74,7 @@ module _ (L : ℕ) (T : Tables) (c : Checked) (e : checked_of c ≡ check_then l
   hand : Hands (check_then limits L T)
   hand = hands (check_then limits L T) (tables_after limits L T)
 
-  module _ (lent births : List ℕ) (o : Ordered c T.nodes.birth T.edges (take (length T.edges.left) lent) (take (length T.nodes.birth) births)) (q : c ≡ checked.Sound) where
+  module _ (lent births : List ℕ) (o : Ordered c T.nodes.birth T.edges (take (length T.edges.left) lent) (take (length T.nodes.birth) births)) (q : c ≡ Ok tt) where
     pub sound_readable : Readable L (aged T) (take (length T.edges.left) lent)
     sound_readable = readable L T (take (length T.edges.left) lent) (tables_sound limits L T done (was_sound (check_then limits L T) hand c e q)).0 (o.order q)
 
@@ -91,11 +91,11 @@ module _ (L : ℕ) (T : Tables) (c : Checked) (e : checked_of c ≡ check_then l
     unfolding allele allele_answer named
     by_check a q = ap (read_of L T i b) q
 
-    pub whole_refused : (r : Refusal) → c ≡ checked.Refused r → ◌≡◌ {A = Stated} (unread (refusal_of r)) (allele limits L T i b)
+    pub whole_refused : (r : Refusal) → c ≡ Err r → ◌≡◌ {A = Stated} (unread (refusal_of r)) (allele limits L T i b)
     whole_refused r q = sym
         (by_check (refusal_of r) (sym (stops (check_then limits L T) hand c e r q (named T i b)) ∙ ap checked_of q)
         ∙ allele_refused (refusal_of r) (refused r) (missing_at (record_of L T) i b) (allele_at (record_of L T) i b))
 
-    pub whole_read : (s : Stated) → c ≡ checked.Sound → s ≡ read_allele L (aged T) i b → s ≡ allele limits L T i b
+    pub whole_read : (s : Stated) → c ≡ Ok tt → s ≡ read_allele L (aged T) i b → s ≡ allele limits L T i b
     unfolding read_allele
     whole_read s q f = f ∙ read_aged L T i b ∙ sym (by_check (named T i b) (goes_on (check_then limits L T) hand c e q (named T i b)))

@@ -15,7 +15,7 @@ ghost use Rattle.alleles.specs.Reading.{Readable};
 
 pub mod climb; // the first marked row at or above a row
 
-use meaning::{Allele, Checked, Refusal};
+use meaning::Refusal;
 
 // The first marked row at or above a row, or ParentColumn::NONE, and the end of the stretch in which the way to it is the same.
 #[derive(Drop)]
@@ -102,7 +102,7 @@ pub fn row_allele(
     by_child: &[u32],
     i: u32,
     u: u32,
-) -> Allele
+) -> Result<Option<u8>, Refusal>
     requires { Readable len
         (tables
         (age_table time.now birth.now)
@@ -127,11 +127,11 @@ pub fn row_allele(
     if missing::is_missing(
         len, time, left, right, parent, child, by_child, &ends, &has, x, u,
     ) {
-        return Allele::Missing;
+        return Ok(None);
     }
-    Allele::State(climb::carried(
+    Ok(Some(climb::carried(
         len, time, left, right, parent, child, by_child, &ends, &has, &state, other, x, u,
-    ))
+    )))
 }
 
 // The allele of the fish b at site row i, of tables that the check does not refuse, with the orders that it leaves.
@@ -152,7 +152,7 @@ fn read_allele(
     by_birth: &[u32],
     i: u32,
     b: u32,
-) -> Allele
+) -> Result<Option<u8>, Refusal>
     requires { Readable len
         (tables
         (age_table time.now birth.now)
@@ -168,11 +168,11 @@ fn read_allele(
         (mutation_table site.now node.now derived.now)) i b }
 {
     if position.len() <= i as usize {
-        return Allele::Refused(Refusal::NoSite);
+        return Err(Refusal::NoSite);
     }
     let u = order::ranks::row_of(birth, by_birth, b);
     if birth.len() <= u {
-        return Allele::Refused(Refusal::NoBirth);
+        return Err(Refusal::NoBirth);
     }
     row_allele(
         len, time, birth, left, right, parent, child, position, ancestral, site, node, derived,
@@ -199,7 +199,7 @@ fn allele_lent(
     by_birth: &mut [u32],
     i: u32,
     b: u32,
-) -> Allele
+) -> Result<Option<u8>, Refusal>
     requires { (length by_child.old ≡ 4096) × (length by_birth.old ≡ 1024) }
     ensures { allele_of result
         ≡ allele limits len
@@ -211,30 +211,28 @@ fn allele_lent(
 {
     let n = left.len();
     let m = birth.len();
-    match checker::check_lent(
+    checker::check_lent(
         len, time, birth, population, left, right, parent, child, position, ancestral, site, node,
         derived, by_child, by_birth,
-    ) {
-        Checked::Refused(r) => Allele::Refused(r),
-        Checked::Sound => read_allele(
-            len,
-            time,
-            birth,
-            left,
-            right,
-            parent,
-            child,
-            position,
-            ancestral,
-            site,
-            node,
-            derived,
-            &by_child[..n],
-            &by_birth[..m],
-            i,
-            b,
-        ),
-    }
+    )?;
+    read_allele(
+        len,
+        time,
+        birth,
+        left,
+        right,
+        parent,
+        child,
+        position,
+        ancestral,
+        site,
+        node,
+        derived,
+        &by_child[..n],
+        &by_birth[..m],
+        i,
+        b,
+    )
 }
 
 // 01's allele call: the state that the fish b carries at site row i, that it is missing there, or the refusal.
@@ -254,7 +252,7 @@ pub fn allele(
     derived: &[u8],
     i: u32,
     b: u32,
-) -> Allele
+) -> Result<Option<u8>, Refusal>
     ensures { allele_of result
         ≡ allele limits len
         (tables

@@ -8,7 +8,7 @@ ghost use Rattle.order.specs.Ranks.{Ranked};
 ghost use Rattle.batches.specs.Lengths.{batch_ragged, batch_large};
 ghost use Rattle.batches.specs.Asked.{read_base, BatchAsked};
 
-use meaning::{Checked, Refusal};
+use meaning::Refusal;
 
 // 20 and 21 on lengths alone.
 pub fn lengths_checked(
@@ -25,20 +25,20 @@ pub fn lengths_checked(
     site: usize,
     node: usize,
     derived: usize,
-) -> Checked
+) -> Result<(), Refusal>
     ensures { checked_of result ≡ refuse_table 20 (batch_ragged time birth population left right parent child site node derived) (refuse_table 21 (batch_large limits basenodes baseedges basemutations time left site) done) }
 {
     let t = crate::lengths::ragged_batch(
         time, birth, population, left, right, parent, child, site, node, derived,
     );
     if t != 0 {
-        return Checked::Refused(Refusal::BatchRagged(t));
+        return Err(Refusal::BatchRagged(t));
     }
     let m = crate::lengths::large_batch(basenodes, baseedges, basemutations, time, left, site);
     if m != 0 {
-        return Checked::Refused(Refusal::BatchTooMany(m));
+        return Err(Refusal::BatchTooMany(m));
     }
-    Checked::Sound
+    Ok(())
 }
 
 // 22 to 26, of a batch that is not ragged, over a base that is sound, with its nodes by birth; by_birth is left with the batch's nodes by birth.
@@ -62,7 +62,7 @@ pub fn rules_checked(
     site: &[u32],
     node: &[u32],
     derived: &[u8],
-) -> Checked
+) -> Result<(), Refusal>
     requires { BatchAsked (read_base basetime.now basebirth.now
         (edge_table baseleft.now baseright.now baseparent.now basechild.now) position.now)
         (batch_tables
@@ -79,7 +79,7 @@ pub fn rules_checked(
 {
     let b = crate::births::first_batch_birth(basebirth, base_by_birth, birth, by_birth);
     if b < birth.len() {
-        return Checked::Refused(Refusal::BatchBirth(b));
+        return Err(Refusal::BatchBirth(b));
     }
     let e = crate::edges::first_batch_edge(
         len,
@@ -95,11 +95,11 @@ pub fn rules_checked(
         child,
     );
     if e < left.len() {
-        return Checked::Refused(Refusal::BatchEdge(e));
+        return Err(Refusal::BatchEdge(e));
     }
     let s = crate::edges::first_batch_shared(left, right, parent, child);
     if s < left.len() {
-        return Checked::Refused(Refusal::BatchShared(s));
+        return Err(Refusal::BatchShared(s));
     }
     let m = crate::mutations::first_batch_mutation(
         position.len(),
@@ -110,7 +110,7 @@ pub fn rules_checked(
         derived,
     );
     if m < site.len() {
-        return Checked::Refused(Refusal::BatchMutation(m));
+        return Err(Refusal::BatchMutation(m));
     }
     let a = crate::above::first_batch_above(
         len,
@@ -133,7 +133,7 @@ pub fn rules_checked(
         node,
     );
     if a < site.len() {
-        return Checked::Refused(Refusal::BatchAbove(a));
+        return Err(Refusal::BatchAbove(a));
     }
-    Checked::Sound
+    Ok(())
 }

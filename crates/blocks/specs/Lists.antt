@@ -11,8 +11,8 @@ use Rattle.meaning.specs.Allele.{stated, missing_at, allele_at}
 use Rattle.meaning.specs.Panel.{first_refused}
 use Rattle.meaning.specs.declared.Refusal.{Refusal}
 use Rattle.meaning.specs.declared.Refusal.TheVariants.{NoSite, NoBirth}
-use Rattle.meaning.specs.declared.Checked.{Checked}
-use Rattle.meaning.specs.declared.Checked.TheVariants.{Sound, Refused}
+use Rattle.meaning.specs.Answer.{Checked}
+use Rattle.std.specs.Prelude.{Ok, Err}
 use Rattle.alleles.specs.Call.{read_of, read_allele, no_site, no_birth, reads}
 
 -- what the single calls answer, in block order, of tables that the check does not refuse
@@ -32,7 +32,7 @@ pub record FirstIs (most : ℕ) (birth sites fish : List ℕ) (x : Refusal) : Ty
 -- what is told of two lists that are not empty
 abbrev pub ListsTold : ℕ → List ℕ → List ℕ → List ℕ → Checked → Type 0
 ListsTold most birth sites fish Sound = AllThere most birth sites fish
-ListsTold most birth sites fish (Refused x) = FirstIs most birth sites fish x
+ListsTold most birth sites fish (Err x) = FirstIs most birth sites fish x
 
 -- ---- the first refusal of a list of answers
 

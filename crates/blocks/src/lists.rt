@@ -5,7 +5,7 @@ ghost use Rattle.meaning.specs.Words.{at, mem, any_below};
 ghost use Rattle.order.specs.Ranks.{Ranked};
 ghost use Rattle.blocks.specs.Lists.{ListsTold};
 
-use meaning::{Checked, Refusal};
+use meaning::Refusal;
 
 // Whether some number of the list names no site, where there are so many.
 fn some_no_site(sites: &[u32], most: usize) -> bool
@@ -51,23 +51,23 @@ pub fn first_refused(
     most: usize,
     sites: &[u32],
     fish: &[u32],
-) -> Checked
+) -> Result<(), Refusal>
     requires { Ranked birth.now by_birth.now × (0 < length sites.now) × (0 < length fish.now) }
     ensures { ListsTold most birth.now sites.now fish.now result }
 {
     if most <= sites[0] as usize {
-        return Checked::Refused(Refusal::NoSite);
+        return Err(Refusal::NoSite);
     }
     if is_unknown(birth, by_birth, fish[0]) {
-        return Checked::Refused(Refusal::NoBirth);
+        return Err(Refusal::NoBirth);
     }
     let site_missing = some_no_site(sites, most);
     let fish_unknown = some_unknown(birth, by_birth, fish);
     if site_missing {
-        return Checked::Refused(Refusal::NoSite);
+        return Err(Refusal::NoSite);
     }
     if fish_unknown {
-        return Checked::Refused(Refusal::NoBirth);
+        return Err(Refusal::NoBirth);
     }
-    Checked::Sound
+    Ok(())
 }

@@ -10,8 +10,8 @@ use Rattle.meaning.specs.Rows.{NodeColumns, EdgeColumns, Tables}
 use Rattle.meaning.specs.Answer.{Answer, Limits, done, refuse, refuse_row, accepted, refusal_of, checked_of}
 use Rattle.meaning.specs.declared.Refusal.{Refusal}
 use Rattle.meaning.specs.declared.Refusal.TheVariants.{Ragged, TooMany, Length, BirthRepeated, EdgeBroken, EdgeOrder, EdgeShared, SiteBroken, MutationBroken, MutationAbove, SampleUnknown, SampleRepeated, NoRoom, BatchRagged, BatchTooMany, BatchBirth, BatchEdge, BatchShared, BatchMutation, BatchAbove, MarkWrong, BytesEnd, BytesFollow, RowsOver, EdgeWide, MutationWide, Populated, NoSite, NoBirth}
-use Rattle.meaning.specs.declared.Checked.{Checked}
-use Rattle.meaning.specs.declared.Checked.TheVariants as checked
+use Rattle.meaning.specs.Answer.{Checked}
+use Rattle.std.specs.Prelude.{Ok, Err}
 use Rattle.meaning.specs.Check.{shapes, sizes, length_broken, tree_rules, site_rules, rules, check_then, sample_rules, check_all_then}
 use Rattle.checker.specs.Then.{after}
 
@@ -128,13 +128,13 @@ refused r = elim r as (λ k. accepted (refusal_of k) ≡ false) [
 
 module _ (G : Answer → Answer) (h : Hands G) (c : Checked) (e : checked_of c ≡ G done) where
   -- the group refused, so its answer is the whole's
-  pub stops : (r : Refusal) → c ≡ checked.Refused r → (rest : Answer) → checked_of c ≡ G rest
+  pub stops : (r : Refusal) → c ≡ Err r → (rest : Answer) → checked_of c ≡ G rest
   stops r q rest = e ∙ sym (h rest ∙ after_refused rest (ap accepted (sym e ∙ ap checked_of q) ∙ refused r))
 
   -- the group did not refuse, so the whole is what comes after
-  pub goes_on : c ≡ checked.Sound → (rest : Answer) → G rest ≡ rest
+  pub goes_on : c ≡ Ok tt → (rest : Answer) → G rest ≡ rest
   goes_on q rest = h rest ∙ ap (λ a. after a rest) (sym e ∙ ap checked_of q) ∙ after_sound rest
 
-  pub was_sound : c ≡ checked.Sound → accepted (G done) ≡ true
+  pub was_sound : c ≡ Ok tt → accepted (G done) ≡ true
   unfolding accepted
   was_sound q = ap accepted (sym e ∙ ap checked_of q)

@@ -8,8 +8,8 @@ use lib.Seq.{take_at, length-take-le, length_front}
 use Rattle.meaning.specs.Rows.{EdgeColumns, Tables}
 use Rattle.meaning.specs.Answer.{accepted, limits, checked_of}
 use Rattle.meaning.specs.declared.Refusal.{Refusal}
-use Rattle.meaning.specs.declared.Checked.{Checked}
-use Rattle.meaning.specs.declared.Checked.TheVariants.{Sound, Refused}
+use Rattle.meaning.specs.Answer.{Checked}
+use Rattle.std.specs.Prelude.{Ok, Err}
 use Rattle.laws.specs.Bools.{clash}
 use Rattle.order.specs.Ranks.{Ranked}
 use Rattle.rules.specs.ByChild.{ByChild}
@@ -18,11 +18,11 @@ use Rattle.checker.proofs.After.{refused}
 
 module _ (birth : List ℕ) (E : EdgeColumns) (by_child by_birth : List ℕ) where
   -- a refusal hands on nothing
-  pub refusal_hands : (c : Checked) (r : Refusal) → c ≡ Refused r → Ordered c birth E by_child by_birth
+  pub refusal_hands : (c : Checked) (r : Refusal) → c ≡ Err r → Ordered c birth E by_child by_birth
   unfolding accepted
   refusal_hands c r e = record { order = λ q. absurd (sound_not q); births = λ q. absurd (sound_not q) }
     where
-      sound_not : c ≡ Sound → ⊥
+      sound_not : c ≡ Ok tt → ⊥
       sound_not q = clash (ap (λ x. accepted (checked_of x)) q) (ap (λ x. accepted (checked_of x)) e ∙ refused r)
 
   -- the orders are there whatever a later group answers

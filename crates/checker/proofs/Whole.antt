@@ -10,8 +10,8 @@ use Rattle.meaning.specs.Rows.{NodeColumns, EdgeColumns, Tables}
 use Rattle.meaning.specs.Answer.{Answer, Limits, answer, done, refuse, checked_of}
 use Rattle.meaning.specs.Check.{length_broken, shapes, sizes, tree_rules, site_rules, rules, check_then, sample_rules, check_all_then, check}
 use Rattle.meaning.specs.declared.Refusal.{Refusal}
-use Rattle.meaning.specs.declared.Checked.{Checked}
-use Rattle.meaning.specs.declared.Checked.TheVariants.{Sound, Refused}
+use Rattle.meaning.specs.Answer.{Checked}
+use Rattle.std.specs.Prelude.{Ok, Err}
 use Rattle.rules.specs.Lengths.{lengths_of, ragged_table, large_table, refuse_table}
 use Rattle.rules.proofs.ByLengths.{shapes_by_lengths, sizes_by_lengths}
 use Rattle.checker.specs.Found.{Shaped, Sized, TreeSound}
@@ -36,13 +36,13 @@ module _ (m : Limits) (T : Tables) (s : Checked) (e : checked_of s ≡ table_ans
   lengths_hand : Hands (length_rules m T)
   lengths_hand = hands (length_rules m T) (λ a rest. ap (shapes T) (sizes_after m T a rest) ∙ shapes_after T (sizes m T a) rest)
 
-  lengths_stop : (r : Refusal) → s ≡ Refused r → (rest : Answer) → checked_of s ≡ length_rules m T rest
+  lengths_stop : (r : Refusal) → s ≡ Err r → (rest : Answer) → checked_of s ≡ length_rules m T rest
   lengths_stop = stops (length_rules m T) lengths_hand s by_lengths
 
-  lengths_go_on : s ≡ Sound → (rest : Answer) → length_rules m T rest ≡ rest
+  lengths_go_on : s ≡ Ok tt → (rest : Answer) → length_rules m T rest ≡ rest
   lengths_go_on = goes_on (length_rules m T) lengths_hand s by_lengths
 
-  pub lengths_found : s ≡ Sound → Shaped (aged T) × Sized m (aged T)
+  pub lengths_found : s ≡ Ok tt → Shaped (aged T) × Sized m (aged T)
   lengths_found q =
       let one : _ = shapes_sound T (sizes m T done) (was_sound (length_rules m T) lengths_hand s by_lengths q) in
       let two : _ = sizes_sound m T done one.1 in
@@ -50,7 +50,7 @@ module _ (m : Limits) (T : Tables) (s : Checked) (e : checked_of s ≡ table_ans
 
 -- ---- 3 to 10
 
-pub trees_found : (L : ℕ) (N : NodeColumns) (E : EdgeColumns) (t : Checked) → checked_of t ≡ tree_rules L N E done → t ≡ Sound → TreeSound L N E
+pub trees_found : (L : ℕ) (N : NodeColumns) (E : EdgeColumns) (t : Checked) → checked_of t ≡ tree_rules L N E done → t ≡ Ok tt → TreeSound L N E
 trees_found L N E t e q = (tree_sound L N E done (was_sound (tree_rules L N E) (hands (tree_rules L N E) (tree_after L N E)) t e q)).0
 
 module _ (L : ℕ) (T : Tables) where
@@ -66,30 +66,30 @@ module _ (L : ℕ) (T : Tables) where
     unfolding rules
     past_length = refuse_no 3 0 (tree_rules L T.nodes T.edges (site_rules L T done)) b
 
-    pub trees_refused : (r : Refusal) → t ≡ Refused r → checked_of t ≡ rules L T done
+    pub trees_refused : (r : Refusal) → t ≡ Err r → checked_of t ≡ rules L T done
     trees_refused r q = stops (tree_rules L T.nodes T.edges) trees_hand t e r q (site_rules L T done) ∙ sym past_length
 
-    pub sites_last : t ≡ Sound → (s : Checked) → checked_of s ≡ site_rules L T done → checked_of s ≡ rules L T done
+    pub sites_last : t ≡ Ok tt → (s : Checked) → checked_of s ≡ site_rules L T done → checked_of s ≡ rules L T done
     sites_last q s f = f ∙ sym (past_length ∙ goes_on (tree_rules L T.nodes T.edges) trees_hand t e q (site_rules L T done))
 
 -- ---- 1 to 10: 1 and 2, then 3 to 10
 
 module _ (m : Limits) (L : ℕ) (T : Tables) (s : Checked) (e : checked_of s ≡ table_answer m T) where
-  pub table_refused : (r : Refusal) → s ≡ Refused r → checked_of s ≡ check_then m L T done
+  pub table_refused : (r : Refusal) → s ≡ Err r → checked_of s ≡ check_then m L T done
   unfolding check_then
   table_refused r q = lengths_stop m T s e r q (rules L T done)
 
-  pub rules_last : s ≡ Sound → (t : Checked) → checked_of t ≡ rules L (aged T) done → checked_of t ≡ check_then m L T done
+  pub rules_last : s ≡ Ok tt → (t : Checked) → checked_of t ≡ rules L (aged T) done → checked_of t ≡ check_then m L T done
   unfolding check_then
   rules_last q t f = f ∙ rules_aged L T done ∙ sym (lengths_go_on m T s e q (rules L T done))
 
 -- ---- 3 to 12: 3 to 10, then 11 and 12
 
 module _ (L : ℕ) (T : Tables) (S : List ℕ) (t : Checked) (f : checked_of t ≡ rules L T done) where
-  pub rules_refused : (r : Refusal) → t ≡ Refused r → checked_of t ≡ rules L T (sample_rules T.nodes.birth S done)
+  pub rules_refused : (r : Refusal) → t ≡ Err r → checked_of t ≡ rules L T (sample_rules T.nodes.birth S done)
   rules_refused r k = stops (rules L T) (hands (rules L T) (rules_after L T)) t f r k (sample_rules T.nodes.birth S done)
 
-  pub samples_last : t ≡ Sound → (u : Checked) → checked_of u ≡ sample_rules T.nodes.birth S done → checked_of u ≡ rules L T (sample_rules T.nodes.birth S done)
+  pub samples_last : t ≡ Ok tt → (u : Checked) → checked_of u ≡ sample_rules T.nodes.birth S done → checked_of u ≡ rules L T (sample_rules T.nodes.birth S done)
   samples_last k u g = g ∙ sym (goes_on (rules L T) (hands (rules L T) (rules_after L T)) t f k (sample_rules T.nodes.birth S done))
 
 -- ---- 1 to 12: 1 and 2 of tables 1 to 4, 2 of the samples, then 3 to 12
@@ -102,11 +102,11 @@ module _ (m : Limits) (L : ℕ) (T : Tables) (S : List ℕ) (s : Checked) (e : c
   abbrev counted : Answer
   counted = refuse (ltb m.samples (length S)) 2 5 sampled
 
-  pub lengths_refused : (r : Refusal) → s ≡ Refused r → checked_of s ≡ check m L T S
+  pub lengths_refused : (r : Refusal) → s ≡ Err r → checked_of s ≡ check m L T S
   unfolding check check_all_then
   lengths_refused r q = lengths_stop m T s e r q counted
 
-  module _ (q : s ≡ Sound) where
+  module _ (q : s ≡ Ok tt) where
     past_lengths : check m L T S ≡ counted
     unfolding check check_all_then
     past_lengths = lengths_go_on m T s e q counted

@@ -4,8 +4,8 @@ use Rattle.meaning.specs.Words.{at}
 use Rattle.meaning.specs.Rows.{NodeColumns, EdgeColumns, Tables, edges_of}
 use Rattle.meaning.specs.Answer.{Limits}
 use Rattle.meaning.specs.Check.{repeated, edge_broken, edge_unordered, edge_shared, site_broken, mutation_broken, mutation_above, sample_unknown, length_broken}
-use Rattle.meaning.specs.declared.Checked.{Checked}
-use Rattle.meaning.specs.declared.Checked.TheVariants.{Sound}
+use Rattle.meaning.specs.Answer.{Checked}
+use Rattle.std.specs.Prelude.{Ok, Err}
 use Rattle.order.specs.Ranks.{Ranked}
 use Rattle.rules.specs.Asked.{EvenEdges}
 use Rattle.rules.specs.ByChild.{ByChild}
@@ -53,5 +53,5 @@ pub record SamplesSound (birth S : List ℕ) : Type 0 where
 
 -- what rules 7 and 4 leave where the answer r is no refusal: the edges by child, and the nodes by birth
 pub record Ordered (r : Checked) (birth : List ℕ) (E : EdgeColumns) (by_child by_birth : List ℕ) : Type 0 where
-  pub order : r ≡ Sound → ByChild E by_child
-  pub births : r ≡ Sound → Ranked birth by_birth
+  pub order : r ≡ Ok tt → ByChild E by_child
+  pub births : r ≡ Ok tt → Ranked birth by_birth

@@ -10,7 +10,7 @@ ghost use Rattle.rules.specs.ByChild.{ByChild};
 ghost use Rattle.checker.specs.Found.{Shaped, Sized, TreeSound, Ordered};
 ghost use Rattle.rules.specs.Lengths.{ragged_table, large_table, refuse_table};
 
-use meaning::{Checked, Refusal, SampleTable};
+use meaning::{Refusal, SampleTable};
 
 // 1 and 2 on lengths alone.
 pub fn lengths_checked(
@@ -26,7 +26,7 @@ pub fn lengths_checked(
     site: usize,
     node: usize,
     derived: usize,
-) -> Checked
+) -> Result<(), Refusal>
     ensures { checked_of result ≡ refuse_table 1 (ragged_table (record { time = time; birth = birth; population = population; left = left; right = right; parent = parent; child = child; position = position; ancestral = ancestral; site = site; node = node; derived = derived })) (refuse_table 2 (large_table limits time left position site) done) }
 {
     let t = rules::lengths::ragged_table(
@@ -34,13 +34,13 @@ pub fn lengths_checked(
         derived,
     );
     if t != 0 {
-        return Checked::Refused(Refusal::Ragged(t));
+        return Err(Refusal::Ragged(t));
     }
     let m = rules::lengths::large_table(time, left, position, site);
     if m != 0 {
-        return Checked::Refused(Refusal::TooMany(m));
+        return Err(Refusal::TooMany(m));
     }
-    Checked::Sound
+    Ok(())
 }
 
 // 4 to 7; by_child is left with the edges by child, and by_birth with the nodes by their births.
@@ -54,7 +54,7 @@ pub fn tree_checked(
     child: &[u32],
     by_child: &mut [u32],
     by_birth: &mut [u32],
-) -> Checked
+) -> Result<(), Refusal>
     requires { (length birth.now ≡ length time.now) × EvenEdges
         (edge_table left.now right.now parent.now child.now) × (length by_child.old
         ≡ length left.now) × (length left.now ≤ limits.edges) × (length by_birth.old
@@ -67,21 +67,21 @@ pub fn tree_checked(
 {
     let b = rules::columns::first_repeated(birth, by_birth);
     if b < birth.len() {
-        return Checked::Refused(Refusal::BirthRepeated(b));
+        return Err(Refusal::BirthRepeated(b));
     }
     let e = rules::edges::first_broken_edge(len, time, left, right, parent, child);
     if e < left.len() {
-        return Checked::Refused(Refusal::EdgeBroken(e));
+        return Err(Refusal::EdgeBroken(e));
     }
     let k = rules::edges::first_unordered(time, birth, left, right, parent, child);
     if k < left.len() {
-        return Checked::Refused(Refusal::EdgeOrder(k));
+        return Err(Refusal::EdgeOrder(k));
     }
     let s = rules::edges::first_shared(left, right, parent, child, by_child);
     if s < left.len() {
-        return Checked::Refused(Refusal::EdgeShared(s));
+        return Err(Refusal::EdgeShared(s));
     }
-    Checked::Sound
+    Ok(())
 }
 
 // 8 to 10, of tables whose trees are sound, with the edges by child.
@@ -99,7 +99,7 @@ pub fn sites_checked(
     site: &[u32],
     node: &[u32],
     derived: &[u8],
-) -> Checked
+) -> Result<(), Refusal>
     requires { Shaped
         (tables
         (age_table time.now birth.now)
@@ -124,7 +124,7 @@ pub fn sites_checked(
 {
     let p = rules::columns::first_broken_site(len, position);
     if p < position.len() {
-        return Checked::Refused(Refusal::SiteBroken(p));
+        return Err(Refusal::SiteBroken(p));
     }
     let m = rules::mutations::first_broken_mutation(
         position.len(),
@@ -134,15 +134,15 @@ pub fn sites_checked(
         derived,
     );
     if m < site.len() {
-        return Checked::Refused(Refusal::MutationBroken(m));
+        return Err(Refusal::MutationBroken(m));
     }
     let a = overtaking::first_above(
         len, time, left, right, parent, child, by_child, position, site, node, derived,
     );
     if a < site.len() {
-        return Checked::Refused(Refusal::MutationAbove(a));
+        return Err(Refusal::MutationAbove(a));
     }
-    Checked::Sound
+    Ok(())
 }
 
 // 12: the lowest sample that an earlier one repeats, with a column of its own for the samples in order.
@@ -156,17 +156,17 @@ fn first_twice(samples: &[u32]) -> usize
 }
 
 // 11 and 12, with the nodes by their births.
-pub fn samples_checked(birth: &[u32], by_birth: &[u32], samples: &[u32]) -> Checked
+pub fn samples_checked(birth: &[u32], by_birth: &[u32], samples: &[u32]) -> Result<(), Refusal>
     requires { Ranked birth.now by_birth.now × (length samples.now ≤ limits.samples) }
     ensures { checked_of result ≡ sample_rules birth.now samples.now done }
 {
     let u = rules::columns::first_unknown(birth, by_birth, samples);
     if u < samples.len() {
-        return Checked::Refused(Refusal::SampleUnknown(u));
+        return Err(Refusal::SampleUnknown(u));
     }
     let s = first_twice(samples);
     if s < samples.len() {
-        return Checked::Refused(Refusal::SampleRepeated(s));
+        return Err(Refusal::SampleRepeated(s));
     }
-    Checked::Sound
+    Ok(())
 }

@@ -10,7 +10,7 @@ ghost use Rattle.checker.specs.Found.{Shaped, Sized, Ordered};
 
 mod groups;
 
-use meaning::{Checked, EdgeTable, NodeTable, Refusal, SampleTable};
+use meaning::{EdgeTable, NodeTable, Refusal, SampleTable};
 
 // 3 to 10, of tables that are not ragged; the fronts of by_child and by_birth are left with the edges by child and the nodes by birth.
 fn rules_checked(
@@ -28,7 +28,7 @@ fn rules_checked(
     derived: &[u8],
     by_child: &mut [u32],
     by_birth: &mut [u32],
-) -> Checked
+) -> Result<(), Refusal>
     requires { Shaped
         (tables
         (age_table time.now birth.now)
@@ -50,11 +50,11 @@ fn rules_checked(
         (edge_table left.now right.now parent.now child.now) (take (length left.now) by_child.new) (take (length birth.now) by_birth.new) }
 {
     if rules::lengths::length_broken(len) {
-        return Checked::Refused(Refusal::Length);
+        return Err(Refusal::Length);
     }
     let n = left.len();
     let m = birth.len();
-    let t = groups::tree_checked(
+    groups::tree_checked(
         len,
         time,
         birth,
@@ -64,25 +64,22 @@ fn rules_checked(
         child,
         &mut by_child[..n],
         &mut by_birth[..m],
-    );
-    match t {
-        Checked::Refused(_) => t,
-        Checked::Sound => groups::sites_checked(
-            len,
-            time,
-            birth,
-            left,
-            right,
-            parent,
-            child,
-            &by_child[..n],
-            position,
-            ancestral,
-            site,
-            node,
-            derived,
-        ),
-    }
+    )?;
+    groups::sites_checked(
+        len,
+        time,
+        birth,
+        left,
+        right,
+        parent,
+        child,
+        &by_child[..n],
+        position,
+        ancestral,
+        site,
+        node,
+        derived,
+    )
 }
 
 // 1 to 10; the fronts of by_child and by_birth are left with the edges by child and the nodes by birth where nothing is refused.
@@ -102,7 +99,7 @@ pub fn check_lent(
     derived: &[u8],
     by_child: &mut [u32],
     by_birth: &mut [u32],
-) -> Checked
+) -> Result<(), Refusal>
     requires { (length by_child.old ≡ 4096) × (length by_birth.old ≡ 1024) }
     ensures { (checked_of result
         ≡ check_then limits len
@@ -113,7 +110,7 @@ pub fn check_lent(
         (mutation_table site.now node.now derived.now)) done) × Ordered result birth.now
         (edge_table left.now right.now parent.now child.now) (take (length left.now) by_child.new) (take (length birth.now) by_birth.new) }
 {
-    let s = groups::lengths_checked(
+    groups::lengths_checked(
         time.len(),
         birth.len(),
         population.len(),
@@ -126,14 +123,11 @@ pub fn check_lent(
         site.len(),
         node.len(),
         derived.len(),
-    );
-    match s {
-        Checked::Refused(_) => s,
-        Checked::Sound => rules_checked(
-            len, time, birth, left, right, parent, child, position, ancestral, site, node, derived,
-            by_child, by_birth,
-        ),
-    }
+    )?;
+    rules_checked(
+        len, time, birth, left, right, parent, child, position, ancestral, site, node, derived,
+        by_child, by_birth,
+    )
 }
 
 // 1 to 10, with working columns of its own; allele and join lend theirs to check_lent.
@@ -151,7 +145,7 @@ pub fn check_tables(
     site: &[u32],
     node: &[u32],
     derived: &[u8],
-) -> Checked
+) -> Result<(), Refusal>
     ensures { checked_of result
         ≡ check_then limits len
         (tables
@@ -198,7 +192,7 @@ fn all_rules_checked(
     samples: &[u32],
     by_child: &mut [u32],
     by_birth: &mut [u32],
-) -> Checked
+) -> Result<(), Refusal>
     requires { Shaped
         (tables
         (age_table time.now birth.now)
@@ -220,14 +214,11 @@ fn all_rules_checked(
         (edge_table left.now right.now parent.now child.now) (take (length left.now) by_child.new) (take (length birth.now) by_birth.new) }
 {
     let m = birth.len();
-    let t = rules_checked(
+    rules_checked(
         len, time, birth, left, right, parent, child, position, ancestral, site, node, derived,
         by_child, by_birth,
-    );
-    match t {
-        Checked::Refused(_) => t,
-        Checked::Sound => groups::samples_checked(birth, &by_birth[..m], samples),
-    }
+    )?;
+    groups::samples_checked(birth, &by_birth[..m], samples)
 }
 
 // 1 to 12; the fronts of by_child and by_birth are left with the edges by child and the nodes by birth where nothing is refused.
@@ -248,7 +239,7 @@ pub fn check_all_lent(
     samples: &[u32],
     by_child: &mut [u32],
     by_birth: &mut [u32],
-) -> Checked
+) -> Result<(), Refusal>
     requires { (length by_child.old ≡ 4096) × (length by_birth.old ≡ 1024) }
     ensures { (checked_of result
         ≡ check limits len
@@ -259,7 +250,7 @@ pub fn check_all_lent(
         (mutation_table site.now node.now derived.now)) samples.now) × Ordered result birth.now
         (edge_table left.now right.now parent.now child.now) (take (length left.now) by_child.new) (take (length birth.now) by_birth.new) }
 {
-    let s = groups::lengths_checked(
+    groups::lengths_checked(
         time.len(),
         birth.len(),
         population.len(),
@@ -272,12 +263,9 @@ pub fn check_all_lent(
         site.len(),
         node.len(),
         derived.len(),
-    );
-    if let Checked::Refused(_) = s {
-        return s;
-    }
+    )?;
     if SampleTable::MOST < samples.len() {
-        return Checked::Refused(Refusal::TooMany(SampleTable::NUMBER));
+        return Err(Refusal::TooMany(SampleTable::NUMBER));
     }
     all_rules_checked(
         len, time, birth, left, right, parent, child, position, ancestral, site, node, derived,
@@ -301,7 +289,7 @@ pub fn check(
     node: &[u32],
     derived: &[u8],
     samples: &[u32],
-) -> Checked
+) -> Result<(), Refusal>
     ensures { checked_of result
         ≡ check limits len
         (tables

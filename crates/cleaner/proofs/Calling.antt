@@ -5,8 +5,8 @@ use Prim.Native.Nat.{ℕ, ◌<◌, ◌≤◌}
 use native.Mathlib.Omega.{arith}
 use lib.ListN.{length}
 use Rattle.meaning.specs.declared.Refusal.{Refusal}
-use Rattle.meaning.specs.declared.Checked.{Checked}
-use Rattle.meaning.specs.declared.Checked.TheVariants as checked
+use Rattle.meaning.specs.Answer.{Checked}
+use Rattle.std.specs.Prelude.{Ok, Err}
 use Rattle.meaning.specs.Words.{at}
 use Rattle.meaning.specs.Rows.{Tables}
 use Rattle.meaning.specs.Forest.{Ages, stands}
@@ -29,12 +29,12 @@ module _ (L : ℕ) (T : Tables) (S : List ℕ) (c : Checked) (e : checked_of c �
   found = e
 
   -- tables that the check does not refuse are ground to clean on
-  pub grounded : c ≡ checked.Sound → ((i : ℕ) → i < length T.nodes.time → at T.nodes.time i < Ages) → Ground limits L T S
+  pub grounded : c ≡ Ok tt → ((i : ℕ) → i < length T.nodes.time → at T.nodes.time i < Ages) → Ground limits L T S
   unfolding check
   grounded q y = let k : _ = check_tells limits L T S (was_sound (check_all_then limits L T S) hand c found q) in record { sound = k.sound; listed = k.listed; young = y }
 
   -- a column as long as the nodes may be has room for their order
-  pub births_room : c ≡ checked.Sound → (by : List ℕ) (n : ℕ) → n ≡ 1024 → length by ≡ n → length T.nodes.birth ≤ length by
+  pub births_room : c ≡ Ok tt → (by : List ℕ) (n : ℕ) → n ≡ 1024 → length by ≡ n → length T.nodes.birth ≤ length by
   unfolding check
   births_room q by n m l = let k : _ = check_tells limits L T S (was_sound (check_all_then limits L T S) hand c found q) in omega (arith, k.sound.size.nodes, k.sound.shape.births)
 
@@ -42,12 +42,12 @@ module _ (L : ℕ) (T : Tables) (S : List ℕ) (c : Checked) (e : checked_of c �
     abbrev rest : Answer
     rest = clean_fit limits (cleaned stands L T S) (node_map stands L T S) out out_map cells
 
-    pub call_refused : (r : Refusal) → c ≡ checked.Refused r → ◌≡◌ {A = Outcome} (record { answer = refusal_of r; counts = no_rows_written; cells = out; map = out_map }) (cleaning stands limits L T S out out_map cells)
+    pub call_refused : (r : Refusal) → c ≡ Err r → ◌≡◌ {A = Outcome} (record { answer = refusal_of r; counts = no_rows_written; cells = out; map = out_map }) (cleaning stands limits L T S out out_map cells)
     call_refused r q = sym (
         cleaning_by L T S out out_map cells (refusal_of r) (sym (stops (check_all_then limits L T S) hand c found r q rest) ∙ ap checked_of q)
         ∙ clean_refused (refusal_of r) (refused r) (cleaned stands L T S) (node_map stands L T S) out out_map
         )
 
-    pub call_done : c ≡ checked.Sound → (o : Outcome) → o ≡ after_check L T S out out_map cells → o ≡ cleaning stands limits L T S out out_map cells
+    pub call_done : c ≡ Ok tt → (o : Outcome) → o ≡ after_check L T S out out_map cells → o ≡ cleaning stands limits L T S out out_map cells
     unfolding after_check
     call_done q o f = f ∙ sym (cleaning_by L T S out out_map cells rest (goes_on (check_all_then limits L T S) hand c found q rest))

@@ -17,7 +17,7 @@ mod sound;
 mod store;
 mod trace;
 
-use meaning::{Checked, EdgeTable, NodeTable, Tabled};
+use meaning::{Counts, EdgeTable, NodeTable, Refusal};
 
 // 01's cleaning call, the check of the tables and then the cleaning, for a caller whose block takes so many cells:
 // under four is 13, row 7, before anything is written.
@@ -50,7 +50,7 @@ pub fn clean(
     out_derived: &mut [u8],
     out_map: &mut [u32],
     cells: usize,
-) -> Tabled
+) -> Result<Counts, Refusal>
     ensures { outcome_of result
         (tables
         (node_table out_time.new out_birth.new out_population.new)
@@ -72,7 +72,7 @@ pub fn clean(
     let mut by_child = [0u32; EdgeTable::MOST];
     let mut by_birth = [0u32; NodeTable::MOST];
     let m = birth.len();
-    match checker::check_all_lent(
+    checker::check_all_lent(
         len,
         time,
         birth,
@@ -89,39 +89,37 @@ pub fn clean(
         samples,
         &mut by_child,
         &mut by_birth,
-    ) {
-        Checked::Refused(r) => Tabled::Refused(r),
-        Checked::Sound => sound::clean_sound(
-            len,
-            time,
-            birth,
-            population,
-            left,
-            right,
-            parent,
-            child,
-            position,
-            ancestral,
-            site,
-            node,
-            derived,
-            samples,
-            out_time,
-            out_birth,
-            out_population,
-            out_left,
-            out_right,
-            out_parent,
-            out_child,
-            out_position,
-            out_ancestral,
-            out_site,
-            out_node,
-            out_derived,
-            out_map,
-            cells,
-            &mut by_child,
-            &by_birth[..m],
-        ),
-    }
+    )?;
+    sound::clean_sound(
+        len,
+        time,
+        birth,
+        population,
+        left,
+        right,
+        parent,
+        child,
+        position,
+        ancestral,
+        site,
+        node,
+        derived,
+        samples,
+        out_time,
+        out_birth,
+        out_population,
+        out_left,
+        out_right,
+        out_parent,
+        out_child,
+        out_position,
+        out_ancestral,
+        out_site,
+        out_node,
+        out_derived,
+        out_map,
+        cells,
+        &mut by_child,
+        &by_birth[..m],
+    )
 }

@@ -13,7 +13,7 @@ ghost use Rattle.cleaner.specs.Work.{Ready};
 ghost use Rattle.sweep.specs.Columns.{moves_of, store_of};
 
 use crate::{lists, rank, store, trace};
-use meaning::{EdgeTable, NodeTable, Refusal, Tabled};
+use meaning::{Counts, EdgeTable, NodeTable, Refusal};
 
 // Room for the samples' rows and then every row.
 const KEPT: usize = 1280;
@@ -153,7 +153,7 @@ pub fn clean_sound(
     cells: usize,
     bl: &mut [u32],
     by_birth: &[u32],
-) -> Tabled
+) -> Result<Counts, Refusal>
     requires { Ground limits len
         (tables
         (node_table time.now birth.now population.now)
@@ -237,7 +237,7 @@ pub fn clean_sound(
         cells,
     );
     if t != 0 {
-        return Tabled::Refused(Refusal::NoRoom(t));
+        return Err(Refusal::NoRoom(t));
     }
     store::write_nodes(
         time,
@@ -290,10 +290,10 @@ pub fn clean_sound(
         out_derived,
     );
     writing::copy(&places, time.len(), out_map);
-    Tabled::Done {
+    Ok(Counts {
         nodes: z.nodes,
         edges: z.edges,
         sites: position.len(),
         mutations: z.mutations,
-    }
+    })
 }

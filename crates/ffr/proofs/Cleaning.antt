@@ -16,7 +16,7 @@ use Rattle.meaning.specs.Called.{packed, block_by, CleanCall, clean_call}
 use Rattle.accepted.specs.Refusals.{Accepted, of_done, passed}
 use Rattle.accepted.specs.Checked.{all_sound_of}
 use Rattle.accepted.specs.Rooms.{fits_of, block_long}
-use Rattle.meaning.specs.declared.Tabled.{Tabled}
+use Rattle.meaning.specs.Lent.{Tabled}
 use Rattle.meaning.specs.declared.Tabled.TheVariants as code
 use Rattle.ffr.proofs.Rows.{low_clean}
 use Rattle.ffr.proofs.Packing.{counts_small, block_kept}

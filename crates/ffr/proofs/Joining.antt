@@ -16,7 +16,7 @@ use Rattle.accepted.specs.Refusals.{Accepted, of_done}
 use Rattle.accepted.specs.Checked.{sound_of}
 use Rattle.accepted.specs.Batches.{batch_sound_of}
 use Rattle.accepted.specs.Rooms.{fits_of, block_long}
-use Rattle.meaning.specs.declared.Tabled.{Tabled}
+use Rattle.meaning.specs.Lent.{Tabled}
 use Rattle.meaning.specs.declared.Tabled.TheVariants as code
 use Rattle.ffr.proofs.BatchRows.{low_join}
 use Rattle.ffr.proofs.Packing.{counts_small, block_kept}

@@ -15,7 +15,7 @@ use Rattle.meaning.specs.Called.{packed, block_by}
 use Rattle.accepted.specs.Refusals.{Accepted, passed}
 use Rattle.accepted.specs.Rooms.{Fits}
 use Rattle.checker.proofs.After.{refused}
-use Rattle.meaning.specs.declared.Tabled.{Tabled}
+use Rattle.meaning.specs.Lent.{Tabled}
 use Rattle.meaning.specs.declared.Tabled.TheVariants as code
 use Rattle.ffr.specs.Told.{Counted, Tellable, Told}
 

@@ -13,7 +13,7 @@ use Rattle.meaning.specs.Allele.{allele, allele_answer, allele_at, missing_at, s
 use Rattle.meaning.specs.Called.{packed}
 use Rattle.meaning.specs.Panel.{PanelOutcome, PanelCall, panel_of, singles, first_refused, panel_answer, panel_end, panel, panel_call}
 use Rattle.meaning.specs.declared.Refusal.{Refusal}
-use Rattle.meaning.specs.declared.Panel.{Panel}
+use Rattle.meaning.specs.Panel.{Panel}
 use Rattle.meaning.specs.declared.Panel.TheVariants.{Done, Refused}
 use Rattle.ffr.proofs.Rows.{Low, low_if, low_check}
 

@@ -3,7 +3,7 @@ use Rattle.std.specs.Prelude.{◌≡◌, List, [], ◌∷◌, ℕ, ◌<◌, ◌�
 use Rattle.meaning.specs.Answer.{put, refusal_of}
 use Rattle.meaning.specs.Lent.{Counts}
 use Rattle.meaning.specs.Called.{packed}
-use Rattle.meaning.specs.declared.Tabled.{Tabled}
+use Rattle.meaning.specs.Lent.{Tabled}
 use Rattle.meaning.specs.declared.Tabled.TheVariants.{Refused, Done}
 
 -- what the block takes after 0: four cells are there, and each count is a number of four bytes

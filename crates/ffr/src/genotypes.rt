@@ -5,7 +5,6 @@ ghost use Rattle.meaning.specs.Answer.{limits};
 ghost use Rattle.meaning.specs.Panel.{PanelCall, panel_call};
 
 use crate::pack;
-use meaning::Panel;
 
 // The answer's number times 2^32 plus its row; after 0 both blocks have a byte for each fish and site, fish by fish.
 #[unsafe(no_mangle)]
@@ -39,7 +38,7 @@ pub extern "C" fn ffr_alleles_v2(
         len, time, birth, population, left, right, parent, child, position, ancestral, site, node,
         derived, sites, fish, states, flags,
     ) {
-        Panel::Refused(x) => pack::pack(x),
-        Panel::Done(_) => 0,
+        Err(x) => pack::pack(x),
+        Ok(_) => 0,
     }
 }

@@ -4,14 +4,14 @@ ghost use Rattle.meaning.specs.Answer.{put, refusal_of};
 ghost use Rattle.meaning.specs.Called.{packed};
 ghost use Rattle.ffr.specs.Told.{Tellable, Told};
 
-use meaning::{Refusal, Tabled};
+use meaning::{Counts, Refusal, Told};
 
 // A refusal's number times 2^32 plus its row.
 pub fn pack(x: Refusal) -> u64
     requires { (refusal_of x).row < 4294967296 }
     ensures { result ≡ packed (refusal_of x) }
 {
-    let t = meaning::tell(x);
+    let t = Told::from(x);
     (t.number as u64) * 4294967296 + (t.row as u64)
 }
 
@@ -32,13 +32,13 @@ pub fn tell(x: Tabled, block: &mut [u32]) -> u64
     ensures { Told x block.old result block.new }
 {
     match x {
-        Tabled::Refused(r) => pack(r),
-        Tabled::Done {
+        Err(r) => pack(r),
+        Ok(Counts {
             nodes,
             edges,
             sites,
             mutations,
-        } => {
+        }) => {
             put_block(block, nodes, edges, sites, mutations);
             0
         }

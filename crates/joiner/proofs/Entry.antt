@@ -7,8 +7,8 @@ use lib.Dec.{eqb, ltb}
 use lib.ListN.{length}
 use borrow.Author.Tests.{lt-ltb, le-ltb}
 use Rattle.meaning.specs.declared.Refusal.{Refusal}
-use Rattle.meaning.specs.declared.Checked.{Checked}
-use Rattle.meaning.specs.declared.Checked.TheVariants as checked
+use Rattle.meaning.specs.Answer.{Checked}
+use Rattle.std.specs.Prelude.{Ok, Err}
 use Rattle.meaning.specs.Words.{lowest}
 use Rattle.meaning.specs.Rows.{Tables}
 use Rattle.meaning.specs.Answer.{Answer, answer, done, limits, refuse, refuse_row, accepted, refusal_of, checked_of}
@@ -147,19 +147,19 @@ module _ (L : ℕ) (T : Tables) (B : BatchTables) (c : Checked) (e : checked_of 
   found = e
 
   -- what the checks do not refuse may be joined
-  pub joinable : c ≡ checked.Sound → Joinable L T B
+  pub joinable : c ≡ Ok tt → Joinable L T B
   unfolding batch_then
   joinable q =
       let s : _ = sound_of limits L T (batch_shapes B (batch_sizes limits T B (batch_rules L T B done))) (was_sound (batch_then limits L T B) hand c found q) in
       record { sound = s.0; batch = (batch_sound_of limits L T B done s.1).0 }
 
   module _ (out : Tables) (cells : ℕ) where
-    pub call_refused : (r : Refusal) → c ≡ checked.Refused r → ◌≡◌ {A = JoinOutcome} (record { answer = refusal_of r; counts = no_rows_written; cells = out }) (joining limits L T B out cells)
+    pub call_refused : (r : Refusal) → c ≡ Err r → ◌≡◌ {A = JoinOutcome} (record { answer = refusal_of r; counts = no_rows_written; cells = out }) (joining limits L T B out cells)
     call_refused r q = sym (
         joining_by L T B out cells (refusal_of r) (sym (stops (batch_then limits L T B) hand c found r q (join_fit limits (joined L T B) out cells)) ∙ ap checked_of q)
         ∙ join_refused (refusal_of r) (refused r) (joined L T B) out
         )
 
-    pub call_done : c ≡ checked.Sound → (o : JoinOutcome) → o ≡ after_checks L T B out cells → o ≡ joining limits L T B out cells
+    pub call_done : c ≡ Ok tt → (o : JoinOutcome) → o ≡ after_checks L T B out cells → o ≡ joining limits L T B out cells
     unfolding after_checks
     call_done q o f = f ∙ sym (joining_by L T B out cells (join_fit limits (joined L T B) out cells) (goes_on (batch_then limits L T B) hand c found q (join_fit limits (joined L T B) out cells)))

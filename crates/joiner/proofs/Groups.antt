@@ -12,8 +12,8 @@ use Rattle.meaning.specs.Answer.{Answer, done, limits, refuse, accepted, checked
 use Rattle.meaning.specs.Check.{check_then}
 use Rattle.meaning.specs.Join.{BatchTables, batch_shapes, batch_sizes, batch_rules}
 use Rattle.meaning.specs.declared.Refusal.{Refusal}
-use Rattle.meaning.specs.declared.Checked.{Checked}
-use Rattle.meaning.specs.declared.Checked.TheVariants.{Sound, Refused}
+use Rattle.meaning.specs.Answer.{Checked}
+use Rattle.std.specs.Prelude.{Ok, Err}
 use Rattle.laws.specs.Bools.{or_no, not_no}
 use Rattle.rules.specs.Lengths.{unlike, table_if, refuse_table}
 use Rattle.rules.proofs.ByLengths.{ragged_three, ragged_four}
@@ -118,16 +118,16 @@ module _ (nodes edges mutations populations : ℕ) (B : BatchTables) where
       ∙ refuse_hands (refuse_table 21 (large_of nodes edges mutations B) a) rest (not (eqb (ragged_by populations B) 0)) 20 (ragged_by populations B) refl)
 
   module _ (s : Checked) (e : checked_of s ≡ length_rules done) where
-    pub lengths_stop : (r : Refusal) → s ≡ Refused r → (rest : Answer) → checked_of s ≡ length_rules rest
+    pub lengths_stop : (r : Refusal) → s ≡ Err r → (rest : Answer) → checked_of s ≡ length_rules rest
     lengths_stop = stops length_rules lengths_hand s e
 
-    pub lengths_go_on : s ≡ Sound → (t : Checked) (rest : Answer) → checked_of t ≡ rest → checked_of t ≡ length_rules rest
+    pub lengths_go_on : s ≡ Ok tt → (t : Checked) (rest : Answer) → checked_of t ≡ rest → checked_of t ≡ length_rules rest
     lengths_go_on q t rest f = f ∙ sym (goes_on length_rules lengths_hand s e q rest)
 
-    found_shape : s ≡ Sound → BatchEven B × (accepted (refuse_table 21 (large_of nodes edges mutations B) done) ≡ true)
+    found_shape : s ≡ Ok tt → BatchEven B × (accepted (refuse_table 21 (large_of nodes edges mutations B) done) ≡ true)
     found_shape q = even_of populations B (refuse_table 21 (large_of nodes edges mutations B) done) (was_sound length_rules lengths_hand s e q)
 
-    pub batch_asked : s ≡ Sound → (T : Tables) → nodes ≡ length T.nodes.time → edges ≡ length T.edges.left → BaseAsked T.nodes T.edges T.sites.position → BatchAsked T B
+    pub batch_asked : s ≡ Ok tt → (T : Tables) → nodes ≡ length T.nodes.time → edges ≡ length T.edges.left → BaseAsked T.nodes T.edges T.sites.position → BatchAsked T B
     batch_asked q T en ee b =
         let f : _ = found_shape q in
         let g : _ = sized_of nodes edges mutations B done f.1 in
@@ -149,13 +149,13 @@ module _ (L : ℕ) (T : Tables) (t : Checked) (e : checked_of t ≡ check_then l
   base_hands : Hands (check_then limits L T)
   base_hands = hands (check_then limits L T) (tables_after limits L T)
 
-  pub base_stops : (r : Refusal) → t ≡ Refused r → (rest : Answer) → checked_of t ≡ check_then limits L T rest
+  pub base_stops : (r : Refusal) → t ≡ Err r → (rest : Answer) → checked_of t ≡ check_then limits L T rest
   base_stops = stops (check_then limits L T) base_hands t e
 
-  pub base_sound : t ≡ Sound → TablesSound limits L T
+  pub base_sound : t ≡ Ok tt → TablesSound limits L T
   base_sound q = (tables_sound limits L T done (was_sound (check_then limits L T) base_hands t e q)).0
 
-  pub base_asked : t ≡ Sound → BaseAsked (aged_nodes T.nodes) T.edges T.sites.position
+  pub base_asked : t ≡ Ok tt → BaseAsked (aged_nodes T.nodes) T.edges T.sites.position
   base_asked q =
       let s : _ = base_sound q in
       record {
@@ -167,7 +167,7 @@ module _ (L : ℕ) (T : Tables) (t : Checked) (e : checked_of t ≡ check_then l
       }
 
   -- the rules read only nodes, edges and positions of the base, and no population
-  pub base_goes_on : t ≡ Sound → (B : BatchTables) (u : Checked) → checked_of u ≡ refuse_table 20 (ragged_of B) (refuse_table 21 (large_of (length T.nodes.time) (length T.edges.left) (length T.muts.site) B) (batch_rules L (read_base T.nodes.time T.nodes.birth T.edges T.sites.position) (aged_batch B) done)) → checked_of u ≡ check_then limits L T (batch_shapes B (batch_sizes limits T B (batch_rules L T B done)))
+  pub base_goes_on : t ≡ Ok tt → (B : BatchTables) (u : Checked) → checked_of u ≡ refuse_table 20 (ragged_of B) (refuse_table 21 (large_of (length T.nodes.time) (length T.edges.left) (length T.muts.site) B) (batch_rules L (read_base T.nodes.time T.nodes.birth T.edges T.sites.position) (aged_batch B) done)) → checked_of u ≡ check_then limits L T (batch_shapes B (batch_sizes limits T B (batch_rules L T B done)))
   base_goes_on q B u f =
       f
       ∙ ap (λ a. refuse_table 20 (ragged_of B) (refuse_table 21 (large_of (length T.nodes.time) (length T.edges.left) (length T.muts.site) B) a)) (rules_aged L T B done)

@@ -8,8 +8,8 @@ use Rattle.meaning.specs.Rows.{Tables}
 use Rattle.meaning.specs.Answer.{limits, accepted, checked_of}
 use Rattle.meaning.specs.Join.{BatchTables}
 use Rattle.meaning.specs.declared.Refusal.{Refusal}
-use Rattle.meaning.specs.declared.Checked.{Checked}
-use Rattle.meaning.specs.declared.Checked.TheVariants.{Refused}
+use Rattle.meaning.specs.Answer.{Checked}
+use Rattle.std.specs.Prelude.{Ok, Err}
 use Rattle.laws.specs.Bools.{clash}
 use Rattle.order.specs.Ranks.{Ranked}
 use Rattle.checker.specs.Found.{TablesSound}
@@ -19,7 +19,7 @@ use Rattle.joiner.specs.Joinable.{Joinable}
 use Rattle.joiner.specs.Orders.{BirthsOrdered}
 
 -- a refusal leaves no order
-pub refusal_unordered : (birth by_birth : List ℕ) (c : Checked) (r : Refusal) → c ≡ Refused r → BirthsOrdered c birth by_birth
+pub refusal_unordered : (birth by_birth : List ℕ) (c : Checked) (r : Refusal) → c ≡ Err r → BirthsOrdered c birth by_birth
 unfolding accepted
 refusal_unordered birth by_birth c r e = record { births = λ q. absurd (clash (ap (λ x. accepted (checked_of x)) q) (ap (λ x. accepted (checked_of x)) e ∙ refused r)) }
 

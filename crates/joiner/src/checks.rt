@@ -11,7 +11,7 @@ ghost use Rattle.batches.specs.Asked.{read_base};
 ghost use Rattle.joint.specs.Asked.{BaseAsked};
 ghost use Rattle.joiner.specs.Orders.{BirthsOrdered};
 
-use meaning::{Checked, EdgeTable};
+use meaning::{EdgeTable, Refusal};
 
 // 1 to 10 of the base; the front of by_birth is left with its nodes by birth where nothing is refused.
 fn base_checked(
@@ -29,7 +29,7 @@ fn base_checked(
     site: &[u32],
     node: &[u32],
     derived: &[u8],
-) -> Checked
+) -> Result<(), Refusal>
     requires { length by_birth.old ≡ 1024 }
     ensures { (checked_of result
         ≡ check_then limits len
@@ -82,7 +82,7 @@ fn batch_checked(
     site: &[u32],
     node: &[u32],
     derived: &[u8],
-) -> Checked
+) -> Result<(), Refusal>
     requires { BaseAsked (age_table basetime.now basebirth.now) (edge_table baseleft.now baseright.now baseparent.now basechild.now) position.now × Ranked basebirth.now base_by_birth.now × (length by_birth.old ≡ 1024) }
     ensures { (checked_of result
         ≡ refuse_table 20 (batch_ragged (length time.now) (length birth.now) populations (length left.now) (length right.now) (length parent.now) (length child.now) (length site.now) (length node.now) (length derived.now)) (refuse_table 21 (batch_large limits (length basetime.now) (length baseleft.now) basemutations (length time.now) (length left.now) (length site.now)) (batch_rules len (read_base basetime.now basebirth.now
@@ -93,7 +93,7 @@ fn batch_checked(
         (mutation_table site.now node.now derived.now)) done))) × BirthsOrdered result birth.now (take (length birth.now) by_birth.new) }
 {
     let n = birth.len();
-    let s = batches::whole::lengths_checked(
+    batches::whole::lengths_checked(
         basetime.len(),
         baseleft.len(),
         basemutations,
@@ -107,31 +107,28 @@ fn batch_checked(
         site.len(),
         node.len(),
         derived.len(),
-    );
-    match s {
-        Checked::Refused(_) => s,
-        Checked::Sound => batches::whole::rules_checked(
-            len,
-            basetime,
-            basebirth,
-            base_by_birth,
-            baseleft,
-            baseright,
-            baseparent,
-            basechild,
-            position,
-            time,
-            birth,
-            &mut by_birth[..n],
-            left,
-            right,
-            parent,
-            child,
-            site,
-            node,
-            derived,
-        ),
-    }
+    )?;
+    batches::whole::rules_checked(
+        len,
+        basetime,
+        basebirth,
+        base_by_birth,
+        baseleft,
+        baseright,
+        baseparent,
+        basechild,
+        position,
+        time,
+        birth,
+        &mut by_birth[..n],
+        left,
+        right,
+        parent,
+        child,
+        site,
+        node,
+        derived,
+    )
 }
 
 // 1 to 10 of the base, then 20 to 26 of the batch: all of a join's answers but 13; the fronts of base_by_birth and by_birth are left with the nodes by birth where nothing is refused.
@@ -161,7 +158,7 @@ pub fn check_join(
     site: &[u32],
     node: &[u32],
     derived: &[u8],
-) -> Checked
+) -> Result<(), Refusal>
     requires { (length base_by_birth.old ≡ 1024) × (length by_birth.old ≡ 1024) }
     ensures { (checked_of result
         ≡ check_then limits len
@@ -194,7 +191,7 @@ pub fn check_join(
         (mutation_table site.now node.now derived.now)) done)))) × BirthsOrdered result basebirth.now (take (length basebirth.now) base_by_birth.new) × BirthsOrdered result birth.now (take (length birth.now) by_birth.new) }
 {
     let n = basebirth.len();
-    let t = base_checked(
+    base_checked(
         len,
         basetime,
         basebirth,
@@ -209,31 +206,28 @@ pub fn check_join(
         basesite,
         basenode,
         basederived,
-    );
-    match t {
-        Checked::Refused(_) => t,
-        Checked::Sound => batch_checked(
-            len,
-            basetime,
-            basebirth,
-            &base_by_birth[..n],
-            baseleft,
-            baseright,
-            baseparent,
-            basechild,
-            position,
-            basesite.len(),
-            time,
-            birth,
-            population.len(),
-            by_birth,
-            left,
-            right,
-            parent,
-            child,
-            site,
-            node,
-            derived,
-        ),
-    }
+    )?;
+    batch_checked(
+        len,
+        basetime,
+        basebirth,
+        &base_by_birth[..n],
+        baseleft,
+        baseright,
+        baseparent,
+        basechild,
+        position,
+        basesite.len(),
+        time,
+        birth,
+        population.len(),
+        by_birth,
+        left,
+        right,
+        parent,
+        child,
+        site,
+        node,
+        derived,
+    )
 }

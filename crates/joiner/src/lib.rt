@@ -10,7 +10,7 @@ ghost use Rattle.meaning.specs.Join.{batch_tables, joined_of, joining};
 pub mod checks; // 1 to 10 of the base, then 20 to 26 of the batch
 mod store;
 
-use meaning::{Checked, NodeTable, Tabled};
+use meaning::{Counts, NodeTable, Refusal};
 
 // Joining: 1 to 10 of the base, 20 to 26 of the batch, 13, or the result at the front of the lent columns.
 // `cells` is the size of the block that the caller lends for the row counts: under four, 13 with row 7.
@@ -51,7 +51,7 @@ pub fn join(
     out_node: &mut [u32],
     out_derived: &mut [u8],
     cells: usize,
-) -> Tabled
+) -> Result<Counts, Refusal>
     ensures { joined_of result
         (tables
         (node_table out_time.new out_birth.new out_population.new)
@@ -79,7 +79,7 @@ pub fn join(
     let mut by_birth = [0u32; NodeTable::MOST];
     let n = basebirth.len();
     let m = birth.len();
-    match checks::check_join(
+    checks::check_join(
         len,
         basetime,
         basebirth,
@@ -105,47 +105,45 @@ pub fn join(
         site,
         node,
         derived,
-    ) {
-        Checked::Refused(r) => Tabled::Refused(r),
-        Checked::Sound => store::store(
-            len,
-            basetime,
-            basebirth,
-            basepopulation,
-            &base_by_birth[..n],
-            baseleft,
-            baseright,
-            baseparent,
-            basechild,
-            position,
-            ancestral,
-            basesite,
-            basenode,
-            basederived,
-            time,
-            birth,
-            population,
-            &by_birth[..m],
-            left,
-            right,
-            parent,
-            child,
-            site,
-            node,
-            derived,
-            out_time,
-            out_birth,
-            out_population,
-            out_left,
-            out_right,
-            out_parent,
-            out_child,
-            out_position,
-            out_ancestral,
-            out_site,
-            out_node,
-            out_derived,
-            cells,
-        ),
-    }
+    )?;
+    store::store(
+        len,
+        basetime,
+        basebirth,
+        basepopulation,
+        &base_by_birth[..n],
+        baseleft,
+        baseright,
+        baseparent,
+        basechild,
+        position,
+        ancestral,
+        basesite,
+        basenode,
+        basederived,
+        time,
+        birth,
+        population,
+        &by_birth[..m],
+        left,
+        right,
+        parent,
+        child,
+        site,
+        node,
+        derived,
+        out_time,
+        out_birth,
+        out_population,
+        out_left,
+        out_right,
+        out_parent,
+        out_child,
+        out_position,
+        out_ancestral,
+        out_site,
+        out_node,
+        out_derived,
+        cells,
+    )
 }

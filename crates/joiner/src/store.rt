@@ -9,7 +9,7 @@ ghost use Rattle.joiner.specs.Joinable.{Joinable};
 ghost use Rattle.joiner.specs.Outcome.{after_checks};
 ghost use Rattle.joiner.specs.Room.{join_room};
 
-use meaning::{Bytes, Refusal, Tabled};
+use meaning::{Bytes, Counts, Refusal};
 
 // The rows of a call's block, which has a count for each of tables 1 to 4.
 const COUNTS: usize = 4;
@@ -127,7 +127,7 @@ pub fn store(
     out_node: &mut [u32],
     out_derived: &mut [u8],
     cells: usize,
-) -> Tabled
+) -> Result<Counts, Refusal>
     requires { Joinable len
         (tables
         (node_table basetime.now basebirth.now basepopulation.now)
@@ -183,7 +183,7 @@ pub fn store(
         cells,
     );
     if t != 0 {
-        return Tabled::Refused(Refusal::NoRoom(t));
+        return Err(Refusal::NoRoom(t));
     }
     write_nodes(
         basetime,
@@ -233,10 +233,10 @@ pub fn store(
         out_node,
         out_derived,
     );
-    Tabled::Done {
-        nodes: nodes,
-        edges: edges,
+    Ok(Counts {
+        nodes,
+        edges,
         sites: position.len(),
-        mutations: mutations,
-    }
+        mutations,
+    })
 }

@@ -3,3 +3,4 @@ pub mod Bools
 pub mod Counting
 pub mod Members
 pub mod Facts
+pub mod Passing

@@ -1,13 +1,9 @@
 -- Answers: a number and a row, the limits, the room, and what lent cells hold afterwards.
-use Rattle.std.specs.Prelude.{Bool, true, false, not, List, [], ◌∷◌, ◌++◌, ℕ, min, eqb, ltb, length, drop}
+use Rattle.std.specs.Prelude.{Bool, true, false, not, List, [], ◌∷◌, ◌++◌, ℕ, min, eqb, ltb, length, drop, Option, Some, None, Result, Ok, Err}
 use Rattle.meaning.specs.Words.{or, any, lowest}
 use Rattle.meaning.specs.declared.Refusal.{Refusal}
 use Rattle.meaning.specs.declared.Refusal.TheVariants.{Ragged, TooMany, Length, BirthRepeated, EdgeBroken, EdgeOrder, EdgeShared, SiteBroken, MutationBroken, MutationAbove, SampleUnknown, SampleRepeated, NoRoom, BatchRagged, BatchTooMany, BatchBirth, BatchEdge, BatchShared, BatchMutation, BatchAbove, MarkWrong, BytesEnd, BytesFollow, RowsOver, EdgeWide, MutationWide, Populated, NoSite, NoBirth}
 use Rattle.meaning.specs.declared.Told.{Told}
-use Rattle.meaning.specs.declared.Checked.{Checked}
-use Rattle.meaning.specs.declared.Checked.TheVariants as checked
-use Rattle.meaning.specs.declared.Allele.{Allele}
-use Rattle.meaning.specs.declared.Allele.TheVariants as allele
 
 -- "An answer holds the number, the row": 0 and 0 where all is done
 pub record Answer : Type 0 where
@@ -120,9 +116,13 @@ refusal_of NoBirth = answer 42 0
 abbrev pub told_of : Told → Answer
 told_of t = answer t.number t.row
 
+-- the check's answer: nothing, or a refusal
+abbrev pub Checked : Type 0
+Checked = Result (Unit {0}) Refusal
+
 abbrev pub checked_of : Checked → Answer
-checked_of checked.Sound = done
-checked_of (checked.Refused r) = refusal_of r
+checked_of (Ok _) = done
+checked_of (Err r) = refusal_of r
 
 -- an allele's answer: a state, or, by a kind of its own, that the fish is missing there; "after a refusal all but number and row are 0"
 pub record Stated : Type 0 where
@@ -142,7 +142,11 @@ absent = record { answer = done; missing = true; state = 0 }
 abbrev pub unread : Answer → Stated
 unread a = record { answer = a; missing = false; state = 0 }
 
+-- the allele call's answer: a state, none where the fish is missing there, or a refusal
+abbrev pub Allele : Type 0
+Allele = Result (Option ℕ) Refusal
+
 abbrev pub allele_of : Allele → Stated
-allele_of (allele.State s) = given s
-allele_of allele.Missing = absent
-allele_of (allele.Refused r) = unread (refusal_of r)
+allele_of (Ok (Some s)) = given s
+allele_of (Ok None) = absent
+allele_of (Err r) = unread (refusal_of r)

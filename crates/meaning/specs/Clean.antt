@@ -6,8 +6,7 @@ use Rattle.meaning.specs.Words.{and, or, mem, filter, index_of, each, any_below,
 use Rattle.meaning.specs.Rows.{Tables, Node, Edge, Mutation, Record, births, record_of, tables_of, node_of, time_of, pos_of}
 use Rattle.meaning.specs.Forest.{Par, Ages, Rules, parent_in, is, reached, stands, low, drawn}
 use Rattle.meaning.specs.Answer.{Answer, Limits, done, refuse, lacks, left_by}
-use Rattle.meaning.specs.Lent.{Counts, fit_then, block_then, counts_by, cells_by, answer_of, counts_of}
-use Rattle.meaning.specs.declared.Tabled.{Tabled}
+use Rattle.meaning.specs.Lent.{Counts, fit_then, block_then, counts_by, cells_by, answer_of, counts_of, Tabled}
 use Rattle.meaning.specs.Check.{check_all_then}
 
 -- ---- edges "as long as they can be"

@@ -3,8 +3,7 @@ use Rattle.std.specs.Prelude.{Bool, true, false, not, List, [], ◌∷◌, ◌++
 use Rattle.meaning.specs.Words.{or, at, mem, lex, filter, sort}
 use Rattle.meaning.specs.Rows.{NodeColumns, EdgeColumns, MutationColumns, Tables, Node, Edge, Mutation, Record, edge_key, nodes_of, edges_of, muts_of, record_of, tables_of, time_of}
 use Rattle.meaning.specs.Answer.{Answer, Limits, done, refuse, refuse_row, ragged}
-use Rattle.meaning.specs.Lent.{Counts, fit_then, block_then, counts_by, cells_by, answer_of, counts_of}
-use Rattle.meaning.specs.declared.Tabled.{Tabled}
+use Rattle.meaning.specs.Lent.{Counts, fit_then, block_then, counts_by, cells_by, answer_of, counts_of, Tabled}
 use Rattle.meaning.specs.Check.{repeated, edge_shared, mutation_above, check_then}
 
 -- "A batch has nodes (time, birth)", with the population of M-106 ("Batches carry it as well"), "edges (left, right, parent birth, child birth) and mutations (site row, node birth, state), in any row order"

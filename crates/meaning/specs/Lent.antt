@@ -1,9 +1,9 @@
 -- Tables 1 to 4 as lent for a result: whether it fits, how many rows are written, what the cells hold afterwards.
-use Rattle.std.specs.Prelude.{Bool, true, false, List, [], ◌∷◌, ℕ, ltb, length}
+use Rattle.std.specs.Prelude.{Bool, true, false, List, [], ◌∷◌, ℕ, ltb, length, Result, Ok, Err}
 use Rattle.meaning.specs.Rows.{Tables}
 use Rattle.meaning.specs.Answer.{Answer, Limits, done, refuse, accepted, lacks, put, left_by, refusal_of}
-use Rattle.meaning.specs.declared.Tabled.{Tabled}
-use Rattle.meaning.specs.declared.Tabled.TheVariants.{Done, Refused}
+use Rattle.meaning.specs.declared.Counts as told
+use Rattle.meaning.specs.declared.Refusal.{Refusal}
 
 -- "the rows written in each table"
 pub record Counts : Type 0 where
@@ -92,10 +92,13 @@ cells_by a new out = record {
 
 -- ---- the code's answer of a call that writes tables 1 to 4
 
+abbrev pub Tabled : Type 0
+Tabled = Result told.Counts Refusal
+
 abbrev pub answer_of : Tabled → Answer
-answer_of (Done n e s m) = done
-answer_of (Refused r) = refusal_of r
+answer_of (Ok c) = done
+answer_of (Err r) = refusal_of r
 
 abbrev pub counts_of : Tabled → Counts
-counts_of (Done n e s m) = record { nodes = n; edges = e; sites = s; mutations = m }
-counts_of (Refused r) = no_rows_written
+counts_of (Ok c) = record { nodes = c.nodes; edges = c.edges; sites = c.sites; mutations = c.mutations }
+counts_of (Err r) = no_rows_written

@@ -1,5 +1,5 @@
 -- M-100, "Alleles for a whole panel": the single calls of a list of sites and a list of fish, fish by fish, in two lent blocks of bytes.
-use Rattle.std.specs.Prelude.{◌≡◌, refl, Bool, true, false, List, [], ◌∷◌, map, ℕ, ◌+◌, ◌*◌, ltb, length}
+use Rattle.std.specs.Prelude.{◌≡◌, refl, Bool, true, false, List, [], ◌∷◌, map, ℕ, ◌+◌, ◌*◌, ltb, length, Result, Ok, Err}
 use Rattle.meaning.specs.Words.{each}
 use Rattle.meaning.specs.Rows.{Tables}
 use Rattle.meaning.specs.Answer.{Answer, Limits, Stated, answer, limits, done, refuse, accepted, room, left_by, refusal_of}
@@ -7,8 +7,7 @@ use Rattle.meaning.specs.Check.{check_then}
 use Rattle.meaning.specs.Allele.{allele}
 use Rattle.meaning.specs.Called.{packed}
 use Rattle.meaning.specs.Listing.{listing}
-use Rattle.meaning.specs.declared.Panel.{Panel}
-use Rattle.meaning.specs.declared.Panel.TheVariants as answered
+use Rattle.meaning.specs.declared.Refusal.{Refusal}
 
 -- "fish by fish, with the answers of the single calls": the cell of fish i and site j is i times the number of sites plus j
 unfoldable pub singles : Limits → ℕ → Tables → List ℕ → List ℕ → List Stated
@@ -49,9 +48,12 @@ pub record PanelOutcome : Type 0 where
   pub flags : List ℕ
 
 -- the code's answer, and the blocks as they are afterwards
+abbrev pub Panel : Type 0
+Panel = Result ℕ Refusal
+
 abbrev pub panel_of : Panel → List ℕ → List ℕ → PanelOutcome
-panel_of (answered.Done n) states flags = record { answer = done; bytes = n; states = states; flags = flags }
-panel_of (answered.Refused r) states flags = record { answer = refusal_of r; bytes = 0; states = states; flags = flags }
+panel_of (Ok n) states flags = record { answer = done; bytes = n; states = states; flags = flags }
+panel_of (Err r) states flags = record { answer = refusal_of r; bytes = 0; states = states; flags = flags }
 
 -- "no byte is written" after a refusal
 unfoldable pub bytes_by : Answer → List Stated → ℕ

@@ -116,7 +116,7 @@ impl Chromosome {
 }
 
 // 01's refusals by name, each with its row; specs/Answer.antt has their numbers.
-#[derive(Drop)]
+#[derive(Clone, Copy, Debug, PartialEq, Eq)]
 pub enum Refusal {
     Ragged(usize),
     TooMany(usize),
@@ -149,81 +149,58 @@ pub enum Refusal {
     NoBirth,
 }
 
-// The check's answer.
-#[derive(Drop)]
-pub enum Checked {
-    Sound,
-    Refused(Refusal),
-}
-
-// The allele call's answer: a state, that the fish is missing there, which is no state, or a refusal.
-#[derive(Drop)]
-pub enum Allele {
-    State(u8),
-    Missing,
-    Refused(Refusal),
-}
-
-// The answer of a panel of alleles (M-100): the bytes written in each of its two blocks.
-#[derive(Drop)]
-pub enum Panel {
-    Done(usize),
-    Refused(Refusal),
-}
-
-// The answer of a call that writes tables 1 to 4: the rows written in each.
-#[derive(Drop)]
-pub enum Tabled {
-    Done {
-        nodes: usize,
-        edges: usize,
-        sites: usize,
-        mutations: usize,
-    },
-    Refused(Refusal),
+// The rows that a call has written in each of tables 1 to 4.
+#[derive(Clone, Copy, Debug, PartialEq, Eq)]
+pub struct Counts {
+    pub nodes: usize,
+    pub edges: usize,
+    pub sites: usize,
+    pub mutations: usize,
 }
 
 // A refusal as 01 tells it.
-#[derive(Drop)]
+#[derive(Clone, Copy, Debug, PartialEq, Eq)]
 pub struct Told {
     pub number: u32,
     pub row: usize,
 }
 
 // The number and the row of a refusal: the one place of the code that has them.
-pub fn tell(x: Refusal) -> Told
-    ensures { told_of result ≡ refusal_of x }
-{
-    match x {
-        Refusal::Ragged(row) => Told { number: 1, row },
-        Refusal::TooMany(row) => Told { number: 2, row },
-        Refusal::Length => Told { number: 3, row: 0 },
-        Refusal::BirthRepeated(row) => Told { number: 4, row },
-        Refusal::EdgeBroken(row) => Told { number: 5, row },
-        Refusal::EdgeOrder(row) => Told { number: 6, row },
-        Refusal::EdgeShared(row) => Told { number: 7, row },
-        Refusal::SiteBroken(row) => Told { number: 8, row },
-        Refusal::MutationBroken(row) => Told { number: 9, row },
-        Refusal::MutationAbove(row) => Told { number: 10, row },
-        Refusal::SampleUnknown(row) => Told { number: 11, row },
-        Refusal::SampleRepeated(row) => Told { number: 12, row },
-        Refusal::NoRoom(row) => Told { number: 13, row },
-        Refusal::BatchRagged(row) => Told { number: 20, row },
-        Refusal::BatchTooMany(row) => Told { number: 21, row },
-        Refusal::BatchBirth(row) => Told { number: 22, row },
-        Refusal::BatchEdge(row) => Told { number: 23, row },
-        Refusal::BatchShared(row) => Told { number: 24, row },
-        Refusal::BatchMutation(row) => Told { number: 25, row },
-        Refusal::BatchAbove(row) => Told { number: 26, row },
-        Refusal::MarkWrong(row) => Told { number: 31, row },
-        Refusal::BytesEnd(row) => Told { number: 32, row },
-        Refusal::BytesFollow(row) => Told { number: 33, row },
-        Refusal::RowsOver(row) => Told { number: 34, row },
-        Refusal::EdgeWide(row) => Told { number: 35, row },
-        Refusal::MutationWide(row) => Told { number: 36, row },
-        Refusal::Populated(row) => Told { number: 38, row },
-        Refusal::NoSite => Told { number: 41, row: 0 },
-        Refusal::NoBirth => Told { number: 42, row: 0 },
+impl From<Refusal> for Told {
+    ghost from_gives = { λ x t. told_of t ≡ refusal_of x };
+
+    fn from(x: Refusal) -> Told {
+        match x {
+            Refusal::Ragged(row) => Told { number: 1, row },
+            Refusal::TooMany(row) => Told { number: 2, row },
+            Refusal::Length => Told { number: 3, row: 0 },
+            Refusal::BirthRepeated(row) => Told { number: 4, row },
+            Refusal::EdgeBroken(row) => Told { number: 5, row },
+            Refusal::EdgeOrder(row) => Told { number: 6, row },
+            Refusal::EdgeShared(row) => Told { number: 7, row },
+            Refusal::SiteBroken(row) => Told { number: 8, row },
+            Refusal::MutationBroken(row) => Told { number: 9, row },
+            Refusal::MutationAbove(row) => Told { number: 10, row },
+            Refusal::SampleUnknown(row) => Told { number: 11, row },
+            Refusal::SampleRepeated(row) => Told { number: 12, row },
+            Refusal::NoRoom(row) => Told { number: 13, row },
+            Refusal::BatchRagged(row) => Told { number: 20, row },
+            Refusal::BatchTooMany(row) => Told { number: 21, row },
+            Refusal::BatchBirth(row) => Told { number: 22, row },
+            Refusal::BatchEdge(row) => Told { number: 23, row },
+            Refusal::BatchShared(row) => Told { number: 24, row },
+            Refusal::BatchMutation(row) => Told { number: 25, row },
+            Refusal::BatchAbove(row) => Told { number: 26, row },
+            Refusal::MarkWrong(row) => Told { number: 31, row },
+            Refusal::BytesEnd(row) => Told { number: 32, row },
+            Refusal::BytesFollow(row) => Told { number: 33, row },
+            Refusal::RowsOver(row) => Told { number: 34, row },
+            Refusal::EdgeWide(row) => Told { number: 35, row },
+            Refusal::MutationWide(row) => Told { number: 36, row },
+            Refusal::Populated(row) => Told { number: 38, row },
+            Refusal::NoSite => Told { number: 41, row: 0 },
+            Refusal::NoBirth => Told { number: 42, row: 0 },
+        }
     }
 }
 

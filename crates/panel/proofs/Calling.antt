@@ -9,8 +9,8 @@ use lib.Dec.{leb}
 use lib.ListN.{length, replicate, take, length-replicate}
 use borrow.Author.Tests.{leb-true, leb-false}
 use Rattle.meaning.specs.declared.Refusal.{Refusal}
-use Rattle.meaning.specs.declared.Checked.{Checked}
-use Rattle.meaning.specs.declared.Checked.TheVariants as checked
+use Rattle.meaning.specs.Answer.{Checked}
+use Rattle.std.specs.Prelude.{Ok, Err}
 use Rattle.meaning.specs.declared.Panel.TheVariants as answered
 use Rattle.meaning.specs.Words.{at, each}
 use Rattle.meaning.specs.Rows.{Tables}
@@ -79,13 +79,13 @@ pub some_of : (n : ℕ) → (n ≡ 0 → ⊥) → 0 < n
 some_of zero h = absurd (h refl)
 some_of (suc n) h = omega arith
 
-told_refused : (most : ℕ) (birth sites fish : List ℕ) (r : Checked) (x : Refusal) → ListsTold most birth sites fish r → r ≡ checked.Refused x → FirstIs most birth sites fish x
+told_refused : (most : ℕ) (birth sites fish : List ℕ) (r : Checked) (x : Refusal) → ListsTold most birth sites fish r → r ≡ Err x → FirstIs most birth sites fish x
 told_refused most birth sites fish r x t e = subst (ListsTold most birth sites fish) e t
 
-pub told_sound : (most : ℕ) (birth sites fish : List ℕ) (r : Checked) → ListsTold most birth sites fish r → r ≡ checked.Sound → AllThere most birth sites fish
+pub told_sound : (most : ℕ) (birth sites fish : List ℕ) (r : Checked) → ListsTold most birth sites fish r → r ≡ Ok tt → AllThere most birth sites fish
 told_sound most birth sites fish r t e = subst (ListsTold most birth sites fish) e t
 
-pub refused_first : (L : ℕ) (T : Tables) (sites fish states flags : List ℕ) (r : Checked) (x : Refusal) → ListsTold (length T.sites.position) T.nodes.birth sites fish r → r ≡ checked.Refused x → panel_of (answered.Refused x) states flags ≡ after_check L T sites fish states flags
+pub refused_first : (L : ℕ) (T : Tables) (sites fish states flags : List ℕ) (r : Checked) (x : Refusal) → ListsTold (length T.sites.position) T.nodes.birth sites fish r → r ≡ Err x → panel_of (answered.Refused x) states flags ≡ after_check L T sites fish states flags
 refused_first L T sites fish states flags r x t e = first_refused-is L T sites fish states flags x (refused x) (told_refused (length T.sites.position) T.nodes.birth sites fish r x t e)
 
 pub short_of : {a b : ℕ} (t : Bool) → not t ≡ true → t ≡ leb a b → b < a
@@ -129,32 +129,32 @@ module _ (L : ℕ) (T : Tables) (c : Checked) (e : checked_of c ≡ check_then l
   hand : Hands (check_then limits L T)
   hand = hands (check_then limits L T) (tables_after limits L T)
 
-  sound : c ≡ checked.Sound → TablesSound limits L T
+  sound : c ≡ Ok tt → TablesSound limits L T
   sound q = (tables_sound limits L T done (was_sound (check_then limits L T) hand c e q)).0
 
-  pub sites_named : c ≡ checked.Sound → SitesNamed (length T.sites.position) T.muts.site
+  pub sites_named : c ≡ Ok tt → SitesNamed (length T.sites.position) T.muts.site
   sites_named q = sites_of L T (sound q)
 
-  pub few_sites : c ≡ checked.Sound → length T.sites.position ≤ 512
+  pub few_sites : c ≡ Ok tt → length T.sites.position ≤ 512
   few_sites q = (sound q).sized.sites
 
-  pub few_mutations : c ≡ checked.Sound → length T.muts.site ≤ 1024
+  pub few_mutations : c ≡ Ok tt → length T.muts.site ≤ 1024
   few_mutations q = (sound q).sized.mutations
 
   module _ (sites fish states flags : List ℕ) where
     -- the check's refusal is the call's
-    pub whole_refused : (r : Refusal) → c ≡ checked.Refused r → panel_of (answered.Refused r) states flags ≡ panel limits L T sites fish states flags
+    pub whole_refused : (r : Refusal) → c ≡ Err r → panel_of (answered.Refused r) states flags ≡ panel limits L T sites fish states flags
     unfolding panel panel_answer
     whole_refused r q = sym
         (ap (λ (a : Answer). panel_end a (singles limits L T sites fish) states flags) (sym (stops (check_then limits L T) hand c e r q (first_refused (singles limits L T sites fish) (room_then states flags (length (singles limits L T sites fish))))) ∙ ap checked_of q)
         ∙ end_refused (singles limits L T sites fish) states flags (refusal_of r) (refused r))
 
     -- after a check that refuses nothing the single calls are what is read
-    singles_read : c ≡ checked.Sound → readings L (aged T) sites fish ≡ singles limits L T sites fish
+    singles_read : c ≡ Ok tt → readings L (aged T) sites fish ≡ singles limits L T sites fish
     unfolding readings singles
     singles_read q = each_same (λ b. map (λ i. read_allele L (aged T) i b) sites) (λ b. map (λ i. allele limits L T i b) sites) (λ b. map_same (λ i. read_allele L (aged T) i b) (λ i. allele limits L T i b) (λ i. whole_read L T c e i b (read_allele L (aged T) i b) q refl) sites) fish
 
-    pub whole_sound : (o : PanelOutcome) → c ≡ checked.Sound → o ≡ after_check L (aged T) sites fish states flags → o ≡ panel limits L T sites fish states flags
+    pub whole_sound : (o : PanelOutcome) → c ≡ Ok tt → o ≡ after_check L (aged T) sites fish states flags → o ≡ panel limits L T sites fish states flags
     unfolding panel panel_answer after_check
     whole_sound o q f =
         f

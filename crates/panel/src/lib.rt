@@ -16,7 +16,7 @@ mod fill; // the bytes of all fish at all sites
 mod portions; // so many fish at a time, told at each site
 
 use blocks::{block, lists};
-use meaning::{Bytes, Checked, Panel, Refusal};
+use meaning::{Bytes, Refusal};
 
 // The panel of tables that the check does not refuse, with the orders that it leaves.
 fn panel_sound(
@@ -38,7 +38,7 @@ fn panel_sound(
     fish: &[u32],
     states: &mut [u8],
     flags: &mut [u8],
-) -> Panel
+) -> Result<usize, Refusal>
     requires { Readable len
         (tables
         (age_table time.now birth.now)
@@ -58,22 +58,22 @@ fn panel_sound(
         (mutation_table site.now node.now derived.now)) sites.now fish.now states.old flags.old }
 {
     if sites.len() == 0 {
-        return Panel::Done(0);
+        return Ok(0);
     }
     if fish.len() == 0 {
-        return Panel::Done(0);
+        return Ok(0);
     }
-    match lists::first_refused(birth, by_birth, position.len(), sites, fish) {
-        Checked::Refused(r) => Panel::Refused(r),
-        Checked::Sound => {
+    lists::first_refused(birth, by_birth, position.len(), sites, fish) {
+        Err(r) => Err(r),
+        Ok(()) => {
             if !block::both_have_room(fish.len(), sites.len(), states.len(), flags.len()) {
-                return Panel::Refused(Refusal::NoRoom(Bytes::NUMBER));
+                return Err(Refusal::NoRoom(Bytes::NUMBER));
             }
             fill::fill_blocks(
                 len, time, birth, left, right, parent, child, position, ancestral, site, node,
                 derived, by_child, by_birth, sites, fish, states, flags,
             );
-            Panel::Done(fish.len() * sites.len())
+            Ok(fish.len() * sites.len())
         }
     }
 }
@@ -99,7 +99,7 @@ fn panel_lent(
     fish: &[u32],
     states: &mut [u8],
     flags: &mut [u8],
-) -> Panel
+) -> Result<usize, Refusal>
     requires { (length by_child.old ≡ 4096) × (length by_birth.old ≡ 1024) }
     ensures { panel_of result states.new flags.new
         ≡ panel limits len
@@ -114,29 +114,27 @@ fn panel_lent(
     match checker::check_lent(
         len, time, birth, population, left, right, parent, child, position, ancestral, site, node,
         derived, by_child, by_birth,
-    ) {
-        Checked::Refused(r) => Panel::Refused(r),
-        Checked::Sound => panel_sound(
-            len,
-            time,
-            birth,
-            left,
-            right,
-            parent,
-            child,
-            position,
-            ancestral,
-            site,
-            node,
-            derived,
-            &by_child[..n],
-            &by_birth[..m],
-            sites,
-            fish,
-            states,
-            flags,
-        ),
-    }
+    )?;
+    panel_sound(
+        len,
+        time,
+        birth,
+        left,
+        right,
+        parent,
+        child,
+        position,
+        ancestral,
+        site,
+        node,
+        derived,
+        &by_child[..n],
+        &by_birth[..m],
+        sites,
+        fish,
+        states,
+        flags,
+    )
 }
 
 // M-100's call: the state of each fish of a list at each site of a list, and, in the second block, 1 where it is missing there.
@@ -158,7 +156,7 @@ pub fn alleles(
     fish: &[u32],
     states: &mut [u8],
     flags: &mut [u8],
-) -> Panel
+) -> Result<usize, Refusal>
     ensures { panel_of result states.new flags.new
         ≡ panel limits len
         (tables

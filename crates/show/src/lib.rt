@@ -10,7 +10,7 @@ ghost use Rattle.meaning.specs.Printed.{listed, refused_line};
 ghost use Rattle.listing.specs.Written.{Printed, room};
 ghost use Rattle.meaning.specs.Shown.{Long, front, clean_shown, shown, answered};
 
-use meaning::{Refusal, Tabled};
+use meaning::{Counts, Refusal, Told};
 use stored::{ReadAnswer, Rows};
 
 // The line that a refusal prints.
@@ -18,7 +18,7 @@ fn refused(x: Refusal, out: &mut [u8]) -> usize
     requires { 40 ≤ length out.old }
     ensures { Printed (refused_line (refusal_of x).number (refusal_of x).row) out.old out.new result }
 {
-    let t = meaning::tell(x);
+    let t = Told::from(x);
     listing::refused_line(t.number, t.row, out)
 }
 
@@ -147,12 +147,12 @@ fn clean_and_list(
         writing::within::BLOCK,
     );
     match answer {
-        Tabled::Done {
+        Ok(Counts {
             nodes,
             edges,
             sites,
             mutations,
-        } => list_rows(
+        }) => list_rows(
             len,
             &out_time,
             &out_birth,
@@ -174,7 +174,7 @@ fn clean_and_list(
             birth.len(),
             out,
         ),
-        Tabled::Refused(x) => refused(x, out),
+        Err(x) => refused(x, out),
     }
 }
 

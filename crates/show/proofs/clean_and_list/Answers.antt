@@ -9,7 +9,7 @@ use Rattle.meaning.specs.Forest.{stands}
 use Rattle.meaning.specs.Answer.{done, limits, stored_limits}
 use Rattle.meaning.specs.Lent.{Counts, no_rows_written}
 use Rattle.meaning.specs.Clean.{outcome_of, cleaning}
-use Rattle.meaning.specs.declared.Tabled.{Tabled}
+use Rattle.meaning.specs.Lent.{Tabled}
 use Rattle.meaning.specs.Shown.{blank}
 use Rattle.show.proofs.Printing.{printed_as, clean_listed, clean_refused}
 use Rattle.show.proofs.Keeping.{Listable, clean_listable, listing_room}
