@@ -5,8 +5,8 @@
 
 ghost use Rattle.std.specs.Prelude.{◌≤◌, length, vec_len, IfOk, IfSome, IsTrue, ◌≡◌};
 
-use meaning::Tabled;
 use meaning::columns::Lent;
+use meaning::{Counts, Refusal, Told};
 use std::alloc::{AllocError, Global};
 use std::io::{ErrorKind, Read};
 use std::{fmt, io, slice};
@@ -240,18 +240,13 @@ pub fn holds<T: Cell>(a: &[T], due: &[u32]) -> bool
 }
 
 // Whether a call answered what is due: 01's number and row, and how many rows it wrote.
-pub fn answers(w: &[u32], answer: Tabled) -> bool {
+pub fn answers(w: &[u32], answer: Result<Counts, Refusal>) -> bool {
     let given = match answer {
-        Tabled::Refused(x) => {
-            let t = meaning::tell(x);
+        Ok(n) => [0, 0, n.nodes, n.edges, n.sites, n.mutations],
+        Err(x) => {
+            let t = Told::from(x);
             [t.number as usize, t.row, 0, 0, 0, 0]
         }
-        Tabled::Done {
-            nodes,
-            edges,
-            sites,
-            mutations,
-        } => [0, 0, nodes, edges, sites, mutations],
     };
     let due = w.get(ANSWER..ANSWER + 6).unwrap_or(&[]);
     given.iter().zip(due).all(|(x, y)| *x == *y as usize)

@@ -26,19 +26,22 @@ fn value(digits: &[u8]) -> u32 {
 impl Line {
     // Takes the numbers of a line up to a '#'; whatever is no digit parts them.
     pub fn new(text: &[u8]) -> Line {
-        let mut line = Line {
-            letter: text.first().copied(),
-            count: 0,
-            cells: [NONE; CELLS],
-        };
+        let mut count = 0u32;
+        let mut cells = [NONE; CELLS];
         let said = text.split(|b| *b == b'#').next().unwrap_or(&[]);
         for digits in said.split(|b| !b.is_ascii_digit()) {
             if !digits.is_empty() {
-                line.count = line.count.wrapping_add(1);
-                line.set(line.count as usize, value(digits));
+                count = count.wrapping_add(1);
+                if let Some(cell) = cells.get_mut(count as usize) {
+                    *cell = value(digits);
+                }
             }
         }
-        line
+        Line {
+            letter: text.first().copied(),
+            count,
+            cells,
+        }
     }
 
     // The i-th number, 0 past the cells.

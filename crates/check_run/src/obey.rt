@@ -102,7 +102,14 @@ pub fn obey<R: Print>(
         Some(b'C') => edited(rt, line, 3, tables, tally, |r, l, w, t| check(r, l, w, t))?,
         Some(b'P') => {
             let k = panels::edits_start(line);
-            edited(rt, line, k, tables, tally, |r, l, w, t| panels::ask(r, l, w, t))?;
+            edited(
+                rt,
+                line,
+                k,
+                tables,
+                tally,
+                |r, l, w, t| panels::ask(r, l, w, t),
+            )?;
         }
         Some(b'W') => wide::ask(rt, line, tables, tally)?,
         _ => {}

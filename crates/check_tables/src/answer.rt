@@ -1,5 +1,5 @@
 // The answers of the three calls, by 01's numbers.
-use meaning::{Allele, Checked, Panel, Refusal};
+use meaning::{Refusal, Told};
 use std::fmt;
 
 // A number and a row, and the state where an allele is read, or how many bytes of each block a panel says it has written.
@@ -34,8 +34,8 @@ impl fmt::Display for Answer {
 }
 
 impl From<Refusal> for Answer {
-    fn from(r: Refusal) -> Answer {
-        let t = meaning::tell(r);
+    fn from(x: Refusal) -> Answer {
+        let t = Told::from(x);
         Answer {
             number: t.number as usize,
             row: t.row,
@@ -44,30 +44,32 @@ impl From<Refusal> for Answer {
     }
 }
 
-impl From<Checked> for Answer {
-    fn from(c: Checked) -> Answer {
-        match c {
-            Checked::Sound => Answer::done(0),
-            Checked::Refused(r) => r.into(),
+// The check's.
+impl From<Result<(), Refusal>> for Answer {
+    fn from(r: Result<(), Refusal>) -> Answer {
+        match r {
+            Ok(()) => Answer::done(0),
+            Err(x) => x.into(),
         }
     }
 }
 
-impl From<Allele> for Answer {
-    fn from(a: Allele) -> Answer {
-        match a {
-            Allele::State(v) => Answer::done(u32::from(v)),
-            Allele::Missing => Answer::done(Answer::MISSING),
-            Allele::Refused(r) => r.into(),
+// The allele call's.
+impl From<Result<Option<u8>, Refusal>> for Answer {
+    fn from(r: Result<Option<u8>, Refusal>) -> Answer {
+        match r {
+            Ok(state) => Answer::done(state.map_or(Answer::MISSING, u32::from)),
+            Err(x) => x.into(),
         }
     }
 }
 
-impl From<Panel> for Answer {
-    fn from(p: Panel) -> Answer {
-        match p {
-            Panel::Done(n) => Answer::done((n % 4294967296) as u32),
-            Panel::Refused(r) => r.into(),
+// The panel's.
+impl From<Result<usize, Refusal>> for Answer {
+    fn from(r: Result<usize, Refusal>) -> Answer {
+        match r {
+            Ok(n) => Answer::done((n % 4294967296) as u32),
+            Err(x) => x.into(),
         }
     }
 }

@@ -1,7 +1,7 @@
 // The two calls, each from a record into new columns and back into the record.
 use crate::record;
 use cases::front;
-use meaning::Tabled;
+use meaning::Counts;
 use meaning::columns::Lent;
 
 const NODES: usize = meaning::NodeTable::MOST;
@@ -71,12 +71,14 @@ pub fn join(w: &[u32], bytes: &[u8], at: usize, rec: &mut [u32], states: &mut [u
         &mut derived,
         writing::within::BLOCK,
     );
-    let Tabled::Done {
-        nodes,
-        edges,
-        sites,
-        mutations,
-    } = answer
+    let Ok(
+        Counts {
+            nodes,
+            edges,
+            sites,
+            mutations,
+        },
+    ) = answer
     else {
         return false;
     };
@@ -149,12 +151,14 @@ pub fn clean(w: &[u32], at: usize, rec: &mut [u32], states: &mut [u8]) -> bool {
         &mut map,
         writing::within::BLOCK,
     );
-    let Tabled::Done {
-        nodes,
-        edges,
-        sites,
-        mutations,
-    } = answer
+    let Ok(
+        Counts {
+            nodes,
+            edges,
+            sites,
+            mutations,
+        },
+    ) = answer
     else {
         return false;
     };

@@ -1,6 +1,6 @@
 // What a case has due, and what a call answered, by 01's numbers and with every cell folded into one number.
-use meaning::Refusal;
 use meaning::columns::Lent;
+use meaning::{Refusal, Told};
 use stored::Rows;
 
 // The words before a case: its kind, its bytes, six that the program does not need, then number, row, length and rows that are due, and
@@ -30,7 +30,7 @@ pub fn fold_all(t: Lent<'_>, samples: &[u32]) -> u64 {
 
 // What a refusal answers: 01's number and row, and no rows.
 pub fn refused(x: Refusal) -> [u64; 8] {
-    let t = meaning::tell(x);
+    let t = Told::from(x);
     [t.number as u64, t.row as u64, 0, 0, 0, 0, 0, 0]
 }
 

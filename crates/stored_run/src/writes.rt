@@ -1,5 +1,6 @@
 // Writes by hand, and what is answered: the refusals of a write in their order, and just room.
 use cases::front;
+use meaning::Told;
 use std::io;
 use stored::WriteAnswer;
 
@@ -40,7 +41,7 @@ fn wrote(
     let (number, row) = match answer {
         WriteAnswer::Done(_) => (0, 0),
         WriteAnswer::Refused(x) => {
-            let t = meaning::tell(x);
+            let t = Told::from(x);
             (t.number, t.row)
         }
     };
