@@ -3,34 +3,31 @@ use crate::due;
 use crate::due::Head;
 use cases::front;
 use meaning::columns::Lent;
-use stored::{ReadAnswer, Rows, WriteAnswer};
+use stored::{Contents, Rows};
 
 // What stands in the cells that are written to, before.
 const MARK: u8 = 9;
 
 // Whether the rows that were read are written back byte for byte, and no byte after them changes.
 fn back(bytes: &[u8], len: u32, n: Rows, t: Lent<'_>, samples: &[u32]) -> bool {
+    let rows = Lent {
+        time: front(t.time, n.nodes),
+        birth: front(t.birth, n.nodes),
+        population: front(t.population, n.nodes),
+        left: front(t.left, n.edges),
+        right: front(t.right, n.edges),
+        parent: front(t.parent, n.edges),
+        child: front(t.child, n.edges),
+        position: front(t.position, n.sites),
+        ancestral: front(t.ancestral, n.sites),
+        site: front(t.site, n.mutations),
+        node: front(t.node, n.mutations),
+        derived: front(t.derived, n.mutations),
+    };
     let mut out = [MARK; 81920];
-    let answer = stored::write(
-        len,
-        front(samples, n.samples),
-        front(t.time, n.nodes),
-        front(t.birth, n.nodes),
-        front(t.population, n.nodes),
-        front(t.left, n.edges),
-        front(t.right, n.edges),
-        front(t.parent, n.edges),
-        front(t.child, n.edges),
-        front(t.position, n.sites),
-        front(t.ancestral, n.sites),
-        front(t.site, n.mutations),
-        front(t.node, n.mutations),
-        front(t.derived, n.mutations),
-        &mut out,
-    );
-    match answer {
-        WriteAnswer::Refused(_) => false,
-        WriteAnswer::Done(count) => { out.get(count) == Some(&MARK) && front(&out, count) == bytes }
+    match stored::write(len, rows, front(samples, n.samples), &mut out) {
+        Err(_) => false,
+        Ok(count) => out.get(count) == Some(&MARK) && front(&out, count) == bytes,
     }
 }
 
@@ -85,8 +82,8 @@ pub fn large(bytes: &[u8], head: &Head) -> bool {
         derived: &derived,
     };
     match answer {
-        ReadAnswer::Refused(x) => held(head, due::refused(x), t, &samples),
-        ReadAnswer::Done { len, rows } => {
+        Err(x) => held(head, due::refused(x), t, &samples),
+        Ok(Contents { len, rows }) => {
             held(head, due::done(len, rows), t, &samples) && back(bytes, len, rows, t, &samples)
         }
     }
@@ -136,8 +133,8 @@ fn small(bytes: &[u8], head: &Head, birth: &mut [u32], population: &mut [u16]) -
         derived: &derived,
     };
     let numbers = match answer {
-        ReadAnswer::Refused(x) => due::refused(x),
-        ReadAnswer::Done { len, rows } => due::done(len, rows),
+        Err(x) => due::refused(x),
+        Ok(Contents { len, rows }) => due::done(len, rows),
     };
     held(head, numbers, t, &samples)
 }

@@ -1,8 +1,8 @@
 // Writes by hand, and what is answered: the refusals of a write in their order, and just room.
 use cases::front;
 use meaning::Told;
+use meaning::columns::Lent;
 use std::io;
-use stored::WriteAnswer;
 
 // Writes one edge and one mutation, some times, births, populations and samples, and says what is answered.
 fn wrote(
@@ -21,26 +21,23 @@ fn wrote(
     let p = [parent];
     let u = [node];
     let state = [65u8; 1];
-    let answer = stored::write(
-        10,
-        samples,
-        front(&t, times),
-        front(&t, births),
+    let tables = Lent {
+        time: front(&t, times),
+        birth: front(&t, births),
         population,
-        &one,
-        &one,
-        &p,
-        &one,
-        &one,
-        &state,
-        &one,
-        &u,
-        &state,
-        out,
-    );
-    let (number, row) = match answer {
-        WriteAnswer::Done(_) => (0, 0),
-        WriteAnswer::Refused(x) => {
+        left: &one,
+        right: &one,
+        parent: &p,
+        child: &one,
+        position: &one,
+        ancestral: &state,
+        site: &one,
+        node: &u,
+        derived: &state,
+    };
+    let (number, row) = match stored::write(10, tables, samples, out) {
+        Ok(_) => (0, 0),
+        Err(x) => {
             let t = Told::from(x);
             (t.number, t.row)
         }
