@@ -25,8 +25,10 @@ fn note(rec: &mut [u32], k: usize, start: usize, n: usize) {
 
 // Copies a column into the cells from this one on.
 fn copy<T: Copy, S: Copy + Into<T>>(to: &mut [T], start: usize, column: &[S]) {
-    for (cell, v) in to.iter_mut().skip(start).zip(column) {
-        *cell = (*v).into();
+    if let Some(to) = to.get_mut(start..) {
+        for (cell, v) in to.iter_mut().zip(column) {
+            *cell = (*v).into();
+        }
     }
 }
 
