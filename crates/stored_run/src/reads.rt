@@ -30,9 +30,7 @@ fn back(bytes: &[u8], len: u32, n: Rows, t: Lent<'_>, samples: &[u32]) -> bool {
     );
     match answer {
         WriteAnswer::Refused(_) => false,
-        WriteAnswer::Done(count) => {
-            out.get(count) == Some(&MARK) && front(&out, count) == bytes
-        }
+        WriteAnswer::Done(count) => { out.get(count) == Some(&MARK) && front(&out, count) == bytes }
     }
 }
 
