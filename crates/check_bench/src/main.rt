@@ -10,8 +10,8 @@ use check_tables::base;
 use check_tables::base::Sizes;
 use check_tables::columns::{Column, Columns};
 use std::env::{Env, FillError};
-use std::{fmt, io};
 use std::time::CpuClock;
+use std::{fmt, io};
 
 // How many calls are timed together, and the length of the first one's chromosome.
 const CALLS: u32 = 10;

@@ -62,7 +62,8 @@ impl Line {
     }
 
     // Makes the edit that stands from number k on (column, row and value), and leaves there the value that was written over.
-    fn exchange(&mut self, k: usize, tables: &mut Columns) {
+    fn exchange(&mut self, k: u32, tables: &mut Columns) {
+        let k = k as usize;
         let mut old = 0;
         if let Some(column) = Column::numbered(self.get(k)) {
             old = tables.swap(column, self.get(k + 1), self.get(k + 2));
@@ -73,14 +74,14 @@ impl Line {
     // Makes the line's four edits from number k on, those that are left out on no column.
     pub fn edit(&mut self, k: u32, tables: &mut Columns) {
         for i in [0, 3, 6, 9] {
-            self.exchange(k.wrapping_add(i) as usize, tables);
+            self.exchange(k.wrapping_add(i), tables);
         }
     }
 
     // Takes the four edits back, the last one first.
     pub fn mend(&mut self, k: u32, tables: &mut Columns) {
         for i in [9, 6, 3, 0] {
-            self.exchange(k.wrapping_add(i) as usize, tables);
+            self.exchange(k.wrapping_add(i), tables);
         }
     }
 }

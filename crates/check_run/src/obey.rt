@@ -43,11 +43,11 @@ fn put_column(line: &Line, tables: &mut Columns) {
     tables.put(Column::Heads, line.get(1), rows);
 }
 
-// The answer that is due from this number on.
-fn due(line: &Line, k: usize, state: u32) -> Answer {
+// The answer that is due.
+fn due(number: u32, row: u32, state: u32) -> Answer {
     Answer {
-        number: line.get(k) as usize,
-        row: line.get(k + 1) as usize,
+        number: number as usize,
+        row: row as usize,
         state,
     }
 }
@@ -71,19 +71,19 @@ fn edited<R: Print, F: FnOnce(&R, &Line, &Columns, &mut Tally) -> io::Result<()>
 
 // C: the check, due to give this number and row.
 fn check(rt: &impl Print, line: &Line, tables: &Columns, tally: &mut Tally) -> io::Result<()> {
-    tally.judge(rt, tables.check(), due(line, 1, 0))
+    tally.judge(rt, tables.check(), due(line.get(1), line.get(2), 0))
 }
 
 // B: the check, and the allele call, which is due to give the same refusal.
 fn both(rt: &impl Print, line: &Line, tables: &Columns, tally: &mut Tally) -> io::Result<()> {
     check(rt, line, tables, tally)?;
-    tally.judge(rt, tables.allele(0, 0), due(line, 1, 0))
+    tally.judge(rt, tables.allele(0, 0), due(line.get(1), line.get(2), 0))
 }
 
 // A: the allele call at a site row for a birth number, due to give this number, row and state.
 fn allele(rt: &impl Print, line: &Line, tables: &Columns, tally: &mut Tally) -> io::Result<()> {
     let got = tables.allele(line.get(1), line.get(2));
-    tally.judge(rt, got, due(line, 3, line.get(5)))
+    tally.judge(rt, got, due(line.get(3), line.get(4), line.get(5)))
 }
 
 // Does what a line says; another letter says nothing.
