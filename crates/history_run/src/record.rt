@@ -1,5 +1,7 @@
 // A record in one column of words and one of bytes: start and length of each of its twelve columns, then the columns; the population is
 // the last of them, and stands in words.
+ghost use Rattle.std.specs.Prelude.{◌≤◌};
+
 use meaning::columns::Lent;
 
 // Cells and bytes of a record that has room for every table's limit.
@@ -11,17 +13,9 @@ pub const BYTES: usize = 1536;
 const MOST: usize = 4096;
 
 // Where the populations start, and which column they are.
-const STOCKS: usize = 21024;
+const STOCKS: u32 = 21024;
 
-const LAST: usize = 11;
-
-// Notes start and length of the k-th column.
-fn note(rec: &mut [u32], k: usize, start: usize, n: usize) {
-    if let Some([a, b]) = rec.get_mut(2 * k..2 * k + 2) {
-        *a = start as u32;
-        *b = n as u32;
-    }
-}
+const LAST: u32 = 11;
 
 // Copies a column into the cells from this one on.
 fn copy<T: Copy, S: Copy + Into<T>>(to: &mut [T], start: usize, column: &[S]) {
@@ -32,18 +26,25 @@ fn copy<T: Copy, S: Copy + Into<T>>(to: &mut [T], start: usize, column: &[S]) {
     }
 }
 
+// Notes start and length of the k-th column.
+fn note(rec: &mut [u32], k: u32, start: u32, n: usize)
+    requires { n ≤ 4096 }
+{
+    copy(rec, 2 * k as usize, &[start, n as u32]);
+}
+
 // Puts a column of words into a record, as its k-th.
-fn put<S: Copy + Into<u32>>(rec: &mut [u32], k: usize, start: usize, column: &[S]) {
+fn put<S: Copy + Into<u32>>(rec: &mut [u32], k: u32, start: u32, column: &[S]) {
     let column = cases::front(column, MOST);
     note(rec, k, start, column.len());
-    copy(rec, start, column);
+    copy(rec, start as usize, column);
 }
 
 // Puts a column of states into a record, as its k-th.
-fn put_bytes(rec: &mut [u32], bytes: &mut [u8], k: usize, start: usize, column: &[u8]) {
+fn put_bytes(rec: &mut [u32], bytes: &mut [u8], k: u32, start: u32, column: &[u8]) {
     let column = cases::front(column, MOST);
     note(rec, k, start, column.len());
-    copy(bytes, start, column);
+    copy(bytes, start as usize, column);
 }
 
 // Puts populations into a record, as a call gave them or in words.
