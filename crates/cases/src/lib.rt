@@ -1,271 +1,287 @@
-// Cases on standard input for the programs that run cleanings, joins and histories: numbers in few bytes, the columns that they name, and columns held to
-// those due. A case is four words (kind, its bytes, where its numbers start in them, how many numbers), then the bytes.
+// Cases on standard input for the programs that run cleanings, joins, histories, readings and listings: heads and bytes, numbers in few
+// bytes, the columns that they name, columns held to those due, and a count of how the cases of each group come out.
 
 #![tactic(auto)]
 
-ghost use Rattle.std.specs.Prelude.{◌<◌, ◌≤◌};
+ghost use Rattle.std.specs.Prelude.{◌≤◌, length, vec_len, IfOk, IfSome, IsTrue, ◌≡◌};
 
-use std::io;
+use meaning::columns::Lent;
+use meaning::{Counts, Refusal, Told};
+use std::alloc::{AllocError, Global};
 use std::io::{ErrorKind, Read};
+use std::{fmt, io, slice};
 
-// What every lent cell of words holds before a call, every one of bytes and every one of populations.
-pub const PATTERN: u32 = 4042322160;
+// No program takes more cases, and names of groups, than these.
+const TURNS: u32 = 100000;
 
-pub const MARK: u8 = 170;
+// Where the answer due starts in the numbers of a case.
+const ANSWER: usize = 1;
 
-pub const STOCK: u16 = 43605;
-
-// No position in a case is past this one.
-const FAR: usize = 1000000;
-
-// The words before a case.
-#[derive(Drop)]
-pub struct Words {
-    pub there: bool,
-    pub kind: u32,
-    pub bytes: usize,
-    pub from: usize,
-    pub count: usize,
+// A cell of a column that is lent.
+pub trait Cell: Copy + Into<u32> {
+    // What each cell holds before a call.
+    const MARK: Self;
 }
 
-// The first bytes.
-pub fn front(s: &[u8], n: usize) -> &[u8] {
-    if n <= s.len() { &s[..n] } else { s }
+impl Cell for u32 {
+    const MARK: u32 = 4042322160;
 }
 
-// Whether a read filled its buffer; that the input ended before is no error.
-fn filled(read: io::Result<()>) -> io::Result<bool> {
-    match read {
-        Ok(()) => Ok(true),
-        Err(e) if e.kind() == ErrorKind::UnexpectedEof => Ok(false),
-        Err(e) => Err(e),
+impl Cell for u16 {
+    const MARK: u16 = 43605;
+}
+
+impl Cell for u8 {
+    const MARK: u8 = 170;
+}
+
+// What a case came to: the end of its group, or how its call went.
+#[derive(Clone, Copy, Debug, PartialEq, Eq)]
+pub enum Turn<E> {
+    Group,
+    Ran(E),
+}
+
+// A count of calls by how they went, which a line for each group prints.
+pub trait Count: Copy + fmt::Display {
+    type End: Copy;
+
+    const NOTHING: Self;
+
+    fn count(&mut self, end: Self::End);
+}
+
+// How many cases there were, and how many differ from what is due.
+#[derive(Clone, Copy, Debug, PartialEq, Eq)]
+pub struct Tally {
+    pub cases: u64,
+    pub differ: u64,
+}
+
+impl Count for Tally {
+    type End = bool;
+
+    const NOTHING: Tally = Tally {
+        cases: 0,
+        differ: 0,
+    };
+
+    fn count(&mut self, same: bool) {
+        self.cases = self.cases.wrapping_add(1);
+        if !same {
+            self.differ = self.differ.wrapping_add(1);
+        }
     }
 }
 
-// Fills the front of a buffer with the next bytes of the input; whether there were so many.
-pub fn fetch(input: &mut impl Read, buffer: &mut [u8], n: usize) -> io::Result<bool> {
-    if n <= buffer.len() {
-        filled(input.read_exact(&mut buffer[..n]))
-    } else {
-        Ok(false)
+impl fmt::Display for Tally {
+    fn fmt<W: fmt::Write>(&self, f: &mut fmt::Formatter<W>) -> fmt::Result {
+        let cases = self.cases;
+        let differ = self.differ;
+        write!(f, ": {cases} cases, {differ} differ")
     }
 }
 
-// Reads the words before a case; there is none at the end of the input.
-pub fn next_case(input: &mut impl Read) -> io::Result<Words> {
-    let mut h = [0u8; 16];
-    let there = filled(input.read_exact(&mut h))?;
-    Ok(Words {
-        there,
-        kind: four(&h, 0),
-        bytes: four(&h, 4) as usize,
-        from: four(&h, 8) as usize,
-        count: four(&h, 12) as usize,
-    })
-}
-
-fn wide(b: u8) -> u32
-    ensures { result < 256 }
+// Takes cases until the input ends, and prints a line for each group; the count of all cases, none where the input has more turns than
+// are taken.
+pub fn run<R: Print, I: Read, C: Count, F: FnMut(&R, &mut I) -> io::Result<Option<Turn<C::End>>>>(
+    rt: &R,
+    input: &mut I,
+    mut take: F,
+) -> io::Result<Option<C>>
+    requires { F.IsAlwaysCallable take }
 {
-    b as u32
+    let mut group = C::NOTHING;
+    let mut all = C::NOTHING;
+    for _ in 0..TURNS {
+        match take(rt, input)? {
+            None => return Ok(Some(all)),
+            Some(Turn::Group) => {
+                println!(rt; "{group}")?;
+                group = C::NOTHING;
+            }
+            Some(Turn::Ran(end)) => {
+                group.count(end);
+                all.count(end);
+            }
+        }
+    }
+    Ok(None)
 }
 
-// A byte, 0 past the end.
-fn byte(s: &[u8], i: usize) -> u32
-    ensures { result < 256 }
+// One case whose numbers stand in few bytes: four words (kind, its bytes, where its numbers start in them, how many numbers), then the
+// bytes, at most so many. Kind 0 ends a group and holds its name; any other is judged by its cells and its bytes.
+pub fn take<R: Print + AllocGlobal, E, F: FnOnce(&[u32], &[u8]) -> E>(
+    rt: &R,
+    input: &mut impl Read,
+    most: usize,
+    cells: usize,
+    judge: F,
+) -> io::Result<Option<Turn<E>>>
+    requires { F.IsAlwaysCallable judge }
 {
-    if i < s.len() {
-        return wide(s[i]);
+    let Some(head) = words::<4>(input)? else {
+        return Ok(None);
+    };
+    let [kind, length, from, count] = head;
+    let Some(bytes) = fetch(input, rt.alloc(), length as usize, most)? else {
+        return Ok(None);
+    };
+    if kind == 0 {
+        rt.write_all(&bytes)?;
+        return Ok(Some(Turn::Group));
     }
-    0
+    let w = decode(&bytes, from as usize, count as usize, rt.alloc(), cells)?;
+    Ok(Some(Turn::Ran(judge(&w, &bytes))))
 }
 
-fn two(s: &[u8], i: usize) -> u32
-    requires { i ≤ 1000003 }
-    ensures { result < 65536 }
+// The next n bytes of the input, where there are so many and n is at most this.
+pub fn fetch(
+    input: &mut impl Read,
+    alloc: Global,
+    n: usize,
+    most: usize,
+) -> io::Result<Option<Vec<u8>>>
+    ensures { IfOk result (λ bytes. IfSome bytes (λ v. (vec_len v ≡ n) × (n ≤ most))) }
 {
-    byte(s, i) + byte(s, i + 1) * 256
+    if most < n {
+        return Ok(None);
+    }
+    let mut bytes = Vec::new(alloc);
+    input.by_ref().take(n as u64).read_to_end(&mut bytes)?;
+    Ok(if bytes.len() == n { Some(bytes) } else { None })
 }
 
-// The number in four bytes.
-fn four(s: &[u8], i: usize) -> u32
-    requires { i ≤ 1000001 }
+// The next words of the input, where there are so many: a case's head.
+pub fn words<const N: usize>(input: &mut impl Read) -> io::Result<Option<[u32; N]>> {
+    let mut words = [0u32; N];
+    for word in words.iter_mut() {
+        let mut bytes = [0u8; 4];
+        match input.read_exact(&mut bytes) {
+            Err(e) if e.kind() == ErrorKind::UnexpectedEof => return Ok(None),
+            read => read?,
+        }
+        *word = u32::from_le_bytes(bytes);
+    }
+    Ok(Some(words))
+}
+
+// The next byte, 0 where there is none.
+fn byte(bytes: &mut slice::Iter<'_, u8>) -> u8 {
+    bytes.next().copied().unwrap_or(0)
+}
+
+// The next number: one byte below 254, or two bytes after 254, or four after 255.
+fn number(bytes: &mut slice::Iter<'_, u8>) -> u32 {
+    match byte(bytes) {
+        254 => u32::from(u16::from_le_bytes([byte(bytes), byte(bytes)])),
+        255 => u32::from_le_bytes([byte(bytes), byte(bytes), byte(bytes), byte(bytes)]),
+        b => u32::from(b),
+    }
+}
+
+// So many cells, of which the first n hold the numbers that start at this byte.
+pub fn decode(
+    bytes: &[u8],
+    from: usize,
+    n: usize,
+    alloc: Global,
+    cells: usize,
+) -> Result<Vec<u32>, AllocError>
+    ensures { IfOk result (λ v. vec_len v ≡ cells) }
 {
-    two(s, i) + two(s, i + 2) * 65536
+    let mut w = vec![in alloc; 0u32; cells]?;
+    let mut bytes = bytes.get(from..).unwrap_or(&[]).iter();
+    for cell in w.iter_mut().take(n) {
+        *cell = number(&mut bytes);
+    }
+    Ok(w)
 }
 
-// The number that starts here: a byte below 254, or two bytes after 254, or four after 255.
-fn number(s: &[u8], i: usize) -> u32 {
-    if FAR < i {
-        return 0;
-    }
-    let b = byte(s, i);
-    if b < 254 {
-        return b;
-    }
-    if b == 254 {
-        return two(s, i + 1);
-    }
-    four(s, i + 1)
-}
-
-// Where the number ends that starts here.
-fn past(s: &[u8], i: usize) -> usize {
-    if FAR < i {
-        return i;
-    }
-    let b = byte(s, i);
-    if b < 254 {
-        return i + 1;
-    }
-    if b == 254 {
-        return i + 3;
-    }
-    i + 5
-}
-
-// A cell, or this value past the end.
-fn cell(w: &[u32], i: usize, other: u32) -> u32 {
-    if i < w.len() {
-        return w[i];
-    }
-    other
-}
-
+// A cell, 0 past the end.
 pub fn get(w: &[u32], i: usize) -> u32 {
-    cell(w, i, 0)
+    w.get(i).copied().unwrap_or(0)
 }
 
-pub fn set(w: &mut [u32], i: usize, v: u32) {
-    if i < w.len() {
-        w[i] = v;
-    }
+// The part that the k-th pair of start and length names, where the pairs start at this cell; none where it does not lie within.
+fn part<'a, T>(s: &'a [T], w: &[u32], at: usize, k: usize) -> &'a [T] {
+    let i = at.wrapping_add(k.wrapping_mul(2));
+    let start = get(w, i) as usize;
+    let end = start + get(w, i.wrapping_add(1)) as usize;
+    s.get(start..end).unwrap_or(&[])
 }
 
-// Puts n numbers, from this byte on, into the first cells.
-pub fn decode(s: &[u8], from: usize, n: usize, w: &mut [u32]) {
-    let mut i = from;
-    let mut j = 0;
-    while j < n {
-        let v = number(s, i);
-        set(w, j, v);
-        i = past(s, i);
-        j += 1;
-    }
-}
-
-// The cell of the k-th pair of start and length, where the pairs start at this cell.
-pub fn pair(at: usize, k: usize) -> usize
-    ensures { result ≤ 3000000 }
-{
-    if FAR < at {
-        return FAR;
-    }
-    if FAR < k {
-        return FAR;
-    }
-    at + 2 * k
-}
-
-// The cells that the k-th pair names; none where there are not so many.
+// The cells that the k-th pair names.
 pub fn column(w: &[u32], at: usize, k: usize) -> &[u32] {
-    let i = pair(at, k);
-    let a = get(w, i) as usize;
-    let e = a + get(w, i + 1) as usize;
-    if w.len() < e {
-        return &w[..0];
-    }
-    &w[a..e]
+    part(w, w, at, k)
 }
 
-// The bytes that the k-th pair names; none where there are not so many.
+// The bytes that the k-th pair names.
 pub fn states<'a>(s: &'a [u8], w: &[u32], at: usize, k: usize) -> &'a [u8] {
-    let i = pair(at, k);
-    let a = get(w, i) as usize;
-    let e = a + get(w, i + 1) as usize;
-    if s.len() < e {
-        return &s[..0];
-    }
-    &s[a..e]
+    part(s, w, at, k)
 }
 
 // A lent length, at most the cells that there are.
 pub fn fit(w: &[u32], at: usize, most: usize) -> usize
     ensures { result ≤ most }
 {
-    let n = get(w, at) as usize;
-    if most < n {
-        return most;
-    }
-    n
+    most.min(get(w, at) as usize)
 }
 
 // Whether a column has the rows that are due and, past them, what it held before.
-pub fn holds(a: &[u32], due: &[u32]) -> bool {
-    if a.len() < due.len() {
+pub fn holds<T: Cell>(a: &[T], due: &[u32]) -> bool
+    ensures { IsTrue result → length due.now ≤ length a.now }
+{
+    let Some((rows, rest)) = a.split_at_checked(due.len()) else {
         return false;
-    }
-    let mut i = 0;
-    while i < a.len() {
-        if a[i] != cell(due, i, PATTERN) {
-            return false;
+    };
+    let mark: u32 = T::MARK.into();
+    rows.iter().zip(due).all(|(x, y)| (*x).into() == *y) && rest.iter().all(|x| (*x).into() == mark)
+}
+
+// Whether a call answered what is due: 01's number and row, and how many rows it wrote.
+pub fn answers(w: &[u32], answer: Result<Counts, Refusal>) -> bool {
+    let given = match answer {
+        Ok(n) => [0, 0, n.nodes, n.edges, n.sites, n.mutations],
+        Err(x) => {
+            let t = Told::from(x);
+            [t.number as usize, t.row, 0, 0, 0, 0]
         }
-        i += 1;
-    }
-    true
+    };
+    let due = w.get(ANSWER..ANSWER + 6).unwrap_or(&[]);
+    given.iter().zip(due).all(|(x, y)| *x == *y as usize)
 }
 
-// The same of a column of states.
-pub fn holds_states(a: &[u8], due: &[u32]) -> bool {
-    if a.len() < due.len() {
-        return false;
-    }
-    let mut i = 0;
-    while i < a.len() {
-        if wide(a[i]) != cell(due, i, wide(MARK)) {
-            return false;
-        }
-        i += 1;
-    }
-    true
+// Whether four tables have the rows that are due and, past them, what they held before; the pairs of those due start at this cell, that
+// of the populations last.
+pub fn tables_hold(w: &[u32], at: usize, t: Lent<'_>) -> bool {
+    holds(t.time, column(w, at, 0))
+        && holds(t.birth, column(w, at, 1))
+        && holds(t.left, column(w, at, 2))
+        && holds(t.right, column(w, at, 3))
+        && holds(t.parent, column(w, at, 4))
+        && holds(t.child, column(w, at, 5))
+        && holds(t.position, column(w, at, 6))
+        && holds(t.ancestral, column(w, at, 7))
+        && holds(t.site, column(w, at, 8))
+        && holds(t.node, column(w, at, 9))
+        && holds(t.derived, column(w, at, 10))
+        && holds(t.population, column(w, at, 11))
 }
 
-// The same of a column of populations.
-pub fn holds_stocks(a: &[u16], due: &[u32]) -> bool {
-    if a.len() < due.len() {
-        return false;
-    }
-    let mut i = 0;
-    while i < a.len() {
-        if broad(a[i]) != cell(due, i, broad(STOCK)) {
-            return false;
-        }
-        i += 1;
-    }
-    true
+// The first cells; all where there are not so many.
+pub fn front<T>(s: &[T], n: usize) -> &[T]
+    ensures { length result.now ≤ n }
+{
+    s.get(..n).unwrap_or(s)
 }
 
-// A population as a word.
-pub fn broad(v: u16) -> u32 {
-    v as u32
-}
-
-fn set_stock(p: &mut [u16], i: usize, v: u32) {
-    if i < p.len() {
-        p[i] = (v % 65536) as u16;
+// Puts a column's words into the first cells of the populations, as the calls take them, and lends those cells.
+pub fn narrow<'a>(column: &[u32], p: &'a mut [u16]) -> &'a [u16]
+    ensures { length result.now ≤ length column.now }
+{
+    for (stock, word) in p.iter_mut().zip(column) {
+        *stock = (*word % 65536) as u16;
     }
-}
-
-// Puts a column's words into the first cells of the populations, as the calls take them.
-pub fn narrow(column: &[u32], p: &mut [u16]) {
-    let mut i = 0;
-    while i < column.len() {
-        set_stock(p, i, column[i]);
-        i += 1;
-    }
-}
-
-// The first populations.
-pub fn front_stocks(p: &[u16], n: usize) -> &[u16] {
-    if n <= p.len() { &p[..n] } else { p }
+    &p[..column.len().min(p.len())]
 }

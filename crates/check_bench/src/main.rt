@@ -5,22 +5,36 @@
 
 #![tactic(auto)]
 
+use check_tables::answer::Answer;
+use check_tables::base;
 use check_tables::base::Sizes;
-use check_tables::block::{Column, States, Words};
-use check_tables::{base, block, call};
+use check_tables::columns::{Column, Columns};
 use std::env::{Env, FillError};
-use std::io;
 use std::time::CpuClock;
+use std::{fmt, io};
 
-// How many calls are timed together.
+// How many calls are timed together, and the length of the first one's chromosome.
 const CALLS: u32 = 10;
 
+const LENGTH: u32 = 4096;
+
 // The shapes.
-const LINE: u32 = 0;
+#[derive(Clone, Copy, Debug, PartialEq, Eq)]
+enum Shape {
+    Line,
+    OneChild,
+    Spread,
+}
 
-const ONE_CHILD: u32 = 1;
-
-const SPREAD: u32 = 2;
+impl fmt::Display for Shape {
+    fn fmt<W: fmt::Write>(&self, f: &mut fmt::Formatter<W>) -> fmt::Result {
+        match self {
+            Shape::Line => write!(f, "a line of nodes"),
+            Shape::OneChild => write!(f, "all edges of one child"),
+            Shape::Spread => write!(f, "a line of nodes, a mutation at each site"),
+        }
+    }
+}
 
 // The processor time used, in microseconds, 0 where they are too many to tell.
 fn ticks(rt: &impl CpuClock) -> io::Result<u64> {
@@ -28,34 +42,24 @@ fn ticks(rt: &impl CpuClock) -> io::Result<u64> {
     Ok(u64::try_from(used.as_micros()).unwrap_or(0))
 }
 
-fn write_number(rt: &impl Print, text: &[u8], n: u64) -> io::Result<()> {
-    rt.write_all(text)?;
-    print!(rt; "{n}")
-}
-
-// The number that one call answers on a chromosome of this length: the allele of row 0 at the first site, up the whole line, or the
-// check. Each call has another length, so that none can stand for another.
-fn one_call(w: &mut [u32], s: &[u8], allele: bool, len: u32) -> usize {
-    block::set(w, Column::LENGTH as usize, len);
-    if allele {
-        return call::allele(w, s, 0, 4294967295).number;
-    }
-    call::check(w, s).number
-}
-
-// The microseconds of all calls, 0 where one was refused.
-fn timed(rt: &impl CpuClock, w: &mut [u32], s: &[u8], allele: bool) -> io::Result<u64> {
+// The microseconds of all calls, 0 where one was refused; each on a chromosome of another length, so that none can stand for another.
+fn timed<F: Fn(&Columns) -> Answer>(
+    rt: &impl CpuClock,
+    tables: &mut Columns,
+    call: F,
+) -> io::Result<u64>
+    requires { F.IsAlwaysCallable call }
+{
     let before = ticks(rt)?;
-    let mut refused = 0;
-    let mut i: u32 = 0;
-    while i < CALLS {
-        refused = std::num::wrapping_add_usize(refused, one_call(w, s, allele, 4096 + i));
-        i += 1;
+    let mut refused = false;
+    for length in LENGTH..LENGTH + CALLS {
+        tables.put_chromosome(length);
+        refused |= call(tables).number != 0;
     }
-    if refused != 0 {
+    if refused {
         return Ok(0);
     }
-    Ok(std::num::wrapping_sub_u64(ticks(rt)?, before))
+    Ok(ticks(rt)?.wrapping_sub(before))
 }
 
 // The sizes that go with so many nodes, in the proportion of the limits.
@@ -69,64 +73,50 @@ fn sizes(nodes: u32) -> Sizes {
     }
 }
 
-// Leaves n mutations.
-fn keep_mutations(w: &mut [u32], s: &mut [u8], n: u32) {
-    block::put(w, s, Column::HEADS, Column::SITE, n);
-    block::put(w, s, Column::HEADS, Column::NODE, n);
-    block::put(w, s, Column::HEADS, Column::DERIVED, n);
-}
-
-// One mutation at each of n sites, at the foot of the line.
-fn spread(w: &mut [u32], s: &mut [u8], n: u32) {
-    keep_mutations(w, s, n);
-    block::fill(w, s, Column::SITE, n, 0, 1);
-    block::fill(w, s, Column::NODE, n, 0, 0);
+// Leaves one mutation at each of n sites, at the foot of the line.
+fn spread(tables: &mut Columns, n: u32) {
+    for c in [Column::Site, Column::Node, Column::Derived] {
+        tables.put_length(c, n);
+    }
+    tables.fill(Column::Site, n, 0, 1);
+    tables.fill(Column::Node, n, 0, 0);
 }
 
 // Makes the tables of a shape.
-fn prepare(w: &mut [u32], s: &mut [u8], shape: u32, nodes: u32) {
-    base::make(w, s, shape == ONE_CHILD, sizes(nodes));
-    if shape == SPREAD {
-        spread(w, s, nodes / 2);
+fn prepare(tables: &mut Columns, shape: Shape, nodes: u32) {
+    match shape {
+        Shape::Line => tables.make(base::Shape::Line, sizes(nodes)),
+        Shape::OneChild => tables.make(base::Shape::OneChild, sizes(nodes)),
+        Shape::Spread => {
+            tables.make(base::Shape::Line, sizes(nodes));
+            spread(tables, nodes / 2);
+        }
     }
 }
 
-// Prints the microseconds of one check and of one allele call on tables of so many nodes.
+// Prints the microseconds of one check and of one allele call on tables of so many nodes: of the allele of row 0 at the first site, up
+// the whole line.
 fn measure(
     rt: &(impl Print + CpuClock),
-    w: &mut [u32],
-    s: &mut [u8],
-    shape: u32,
+    tables: &mut Columns,
+    shape: Shape,
     nodes: u32,
 ) -> io::Result<()> {
-    prepare(w, s, shape, nodes);
-    write_number(rt, b" ", nodes as u64)?;
-    write_number(rt, b" nodes: check ", timed(rt, w, s, false)? / 10)?;
-    write_number(rt, b" us, allele ", timed(rt, w, s, true)? / 10)?;
-    rt.write_all(b" us\n")
-}
-
-// One shape at the three sizes.
-fn measure_shape(
-    rt: &(impl Print + CpuClock),
-    w: &mut [u32],
-    s: &mut [u8],
-    shape: u32,
-) -> io::Result<()> {
-    measure(rt, w, s, shape, 256)?;
-    measure(rt, w, s, shape, 512)?;
-    measure(rt, w, s, shape, 1024)
+    prepare(tables, shape, nodes);
+    let check = timed(rt, tables, |t| t.check())? / 10;
+    let allele = timed(rt, tables, |t| t.allele(0, u32::MAX))? / 10;
+    println!(rt; " {nodes} nodes: check {check} us, allele {allele} us")
 }
 
 fn run(rt: &(impl Print + CpuClock)) -> io::Result<()> {
-    let mut w = [0u32; Words::CELLS];
-    let mut s = [0u8; States::CELLS];
-    rt.write_all(b"a line of nodes\n")?;
-    measure_shape(rt, &mut w, &mut s, LINE)?;
-    rt.write_all(b"all edges of one child\n")?;
-    measure_shape(rt, &mut w, &mut s, ONE_CHILD)?;
-    rt.write_all(b"a line of nodes, a mutation at each site\n")?;
-    measure_shape(rt, &mut w, &mut s, SPREAD)
+    let mut tables = Columns::new();
+    for shape in [Shape::Line, Shape::OneChild, Shape::Spread] {
+        println!(rt; "{shape}")?;
+        for nodes in [256, 512, 1024] {
+            measure(rt, &mut tables, shape, nodes)?;
+        }
+    }
+    Ok(())
 }
 
 fn main(rt: HostRuntime) -> io::Result<()> {

@@ -8,50 +8,17 @@ mod same;
 mod steps;
 mod twice;
 
-use std::io;
-use std::io::Read;
+use cases::Count;
+use std::{fmt, io};
 use twice::End;
 
-// The most bytes of a history, and the most numbers.
+// The most bytes of a history, and how many numbers are kept of one.
 const BYTES: usize = 65536;
 
 const CELLS: usize = 32768;
 
-// What a case came to.
-#[derive(Drop)]
-enum Turn {
-    Over,
-    Group,
-    Ran(End),
-}
-
-// A history's numbers, taken from its bytes, and what it comes to.
-fn judge(bytes: &[u8], from: usize, n: usize) -> End {
-    let mut w = [0u32; CELLS];
-    cases::decode(bytes, from, n, &mut w);
-    twice::judge(&w, bytes)
-}
-
-// One history; kind 0 ends a group and holds its name.
-fn take_case(rt: &impl Print, input: &mut impl Read) -> io::Result<Turn> {
-    let h = cases::next_case(input)?;
-    if !h.there {
-        return Ok(Turn::Over);
-    }
-    let mut bytes = [0u8; BYTES];
-    if !cases::fetch(input, &mut bytes, h.bytes)? {
-        return Ok(Turn::Over);
-    }
-    if h.kind == 0 {
-        rt.write_all(cases::front(&bytes, h.bytes))?;
-        return Ok(Turn::Group);
-    }
-    let end = judge(cases::front(&bytes, h.bytes), h.from, h.count);
-    Ok(Turn::Ran(end))
-}
-
 // How many histories came to each end.
-#[derive(Drop)]
+#[derive(Clone, Copy, Debug, PartialEq, Eq)]
 struct Tally {
     all: u64,
     refused: u64,
@@ -59,82 +26,45 @@ struct Tally {
     other: u64,
 }
 
-fn nothing() -> Tally {
-    Tally {
+impl Count for Tally {
+    type End = End;
+
+    const NOTHING: Tally = Tally {
         all: 0,
         refused: 0,
         apart: 0,
         other: 0,
+    };
+
+    fn count(&mut self, end: End) {
+        self.all = self.all.wrapping_add(1);
+        match end {
+            End::Same => {}
+            End::Refused => self.refused = self.refused.wrapping_add(1),
+            End::Apart => self.apart = self.apart.wrapping_add(1),
+            End::Other => self.other = self.other.wrapping_add(1),
+        }
     }
 }
 
-// One more, where there is room for it.
-fn more(n: u64) -> u64 {
-    if n < 1000000 {
-        return n + 1;
+impl fmt::Display for Tally {
+    fn fmt<W: fmt::Write>(&self, f: &mut fmt::Formatter<W>) -> fmt::Result {
+        let all = self.all;
+        let refused = self.refused;
+        let apart = self.apart;
+        let other = self.other;
+        write!(f, ": {all} histories, {refused} refused, ")?;
+        write!(
+            f,
+            "{apart} with two ends, {other} with one end that is not the one due"
+        )
     }
-    n
-}
-
-fn counted(t: Tally, e: End) -> Tally {
-    let all = more(t.all);
-    match e {
-        End::Same => Tally {
-            all,
-            refused: t.refused,
-            apart: t.apart,
-            other: t.other,
-        },
-        End::Refused => Tally {
-            all,
-            refused: more(t.refused),
-            apart: t.apart,
-            other: t.other,
-        },
-        End::Apart => Tally {
-            all,
-            refused: t.refused,
-            apart: more(t.apart),
-            other: t.other,
-        },
-        End::Other => Tally {
-            all,
-            refused: t.refused,
-            apart: t.apart,
-            other: more(t.other),
-        },
-    }
-}
-
-fn summary(rt: &impl Print, t: Tally) -> io::Result<()> {
-    let Tally {
-        all,
-        refused,
-        apart,
-        other,
-    } = t;
-    print!(rt; ": {all} histories, {refused} refused, ")?;
-    println!(rt; "{apart} with two ends, {other} with one end that is not the one due")
 }
 
 fn main(rt: HostRuntime) -> io::Result<()> {
     let mut input = rt.stdin();
-    let mut turns: u64 = 100000;
-    let mut t = nothing();
-    while 0 < turns {
-        turns -= 1;
-        match take_case(&rt, &mut input)? {
-            Turn::Over => {
-                return Ok(());
-            }
-            Turn::Group => {
-                summary(&rt, t)?;
-                t = nothing();
-            }
-            Turn::Ran(e) => {
-                t = counted(t, e);
-            }
-        }
-    }
+    let _: Option<Tally> = cases::run(&rt, &mut input, |rt, input| {
+        cases::take(rt, input, BYTES, CELLS, |w, bytes| twice::judge(w, bytes))
+    })?;
     Ok(())
 }

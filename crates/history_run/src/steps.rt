@@ -1,6 +1,8 @@
 // The two calls, each from a record into new columns and back into the record.
 use crate::record;
-use meaning::Tabled;
+use cases::front;
+use meaning::Counts;
+use meaning::columns::Lent;
 
 const NODES: usize = meaning::NodeTable::MOST;
 
@@ -9,44 +11,6 @@ const EDGES: usize = meaning::EdgeTable::MOST;
 const SITES: usize = meaning::SiteTable::MOST;
 
 const MUTATIONS: usize = meaning::MutationTable::MOST;
-
-// Whether a call was done, and the rows that it wrote.
-#[derive(Drop)]
-struct Seen {
-    done: bool,
-    nodes: usize,
-    edges: usize,
-    sites: usize,
-    mutations: usize,
-}
-
-fn refused() -> Seen {
-    Seen {
-        done: false,
-        nodes: 0,
-        edges: 0,
-        sites: 0,
-        mutations: 0,
-    }
-}
-
-fn answered(r: Tabled) -> Seen {
-    match r {
-        Tabled::Refused(_) => refused(),
-        Tabled::Done {
-            nodes,
-            edges,
-            sites,
-            mutations,
-        } => Seen {
-            done: true,
-            nodes,
-            edges,
-            sites,
-            mutations,
-        },
-    }
-}
 
 // Joins the batch whose pairs start at this cell to the record; false where that is refused.
 pub fn join(w: &[u32], bytes: &[u8], at: usize, rec: &mut [u32], states: &mut [u8]) -> bool {
@@ -65,17 +29,15 @@ pub fn join(w: &[u32], bytes: &[u8], at: usize, rec: &mut [u32], states: &mut [u
     // The record is lent once for all its columns: each lending is a step to prove.
     let old: &[u32] = rec;
     let old_states: &[u8] = states;
-    let first = cases::column(old, 0, 11);
-    let more = cases::column(w, at, 9);
     let mut base = [0u16; NODES];
     let mut young = [0u16; NODES];
-    cases::narrow(first, &mut base);
-    cases::narrow(more, &mut young);
-    let seen = answered(joiner::join(
+    let first = cases::narrow(cases::column(old, 0, 11), &mut base);
+    let more = cases::narrow(cases::column(w, at, 9), &mut young);
+    let answer = joiner::join(
         cases::get(w, 0),
         cases::column(old, 0, 0),
         cases::column(old, 0, 1),
-        cases::front_stocks(&base, first.len()),
+        first,
         cases::column(old, 0, 2),
         cases::column(old, 0, 3),
         cases::column(old, 0, 4),
@@ -87,7 +49,7 @@ pub fn join(w: &[u32], bytes: &[u8], at: usize, rec: &mut [u32], states: &mut [u
         cases::states(old_states, old, 0, 10),
         cases::column(w, at, 0),
         cases::column(w, at, 1),
-        cases::front_stocks(&young, more.len()),
+        more,
         cases::column(w, at, 2),
         cases::column(w, at, 3),
         cases::column(w, at, 4),
@@ -108,30 +70,34 @@ pub fn join(w: &[u32], bytes: &[u8], at: usize, rec: &mut [u32], states: &mut [u
         &mut node,
         &mut derived,
         writing::within::BLOCK,
-    ));
-    if !seen.done {
-        return false;
-    }
-    record::keep_rows(
-        rec,
-        states,
-        seen.nodes,
-        seen.edges,
-        seen.sites,
-        seen.mutations,
-        &time,
-        &birth,
-        &population,
-        &left,
-        &right,
-        &parent,
-        &child,
-        &position,
-        &ancestral,
-        &site,
-        &node,
-        &derived,
     );
+    let Ok(
+        Counts {
+            nodes,
+            edges,
+            sites,
+            mutations,
+        },
+    ) = answer
+    else {
+        return false;
+    };
+    let done = Lent {
+        time: front(&time, nodes),
+        birth: front(&birth, nodes),
+        population: front(&population, nodes),
+        left: front(&left, edges),
+        right: front(&right, edges),
+        parent: front(&parent, edges),
+        child: front(&child, edges),
+        position: front(&position, sites),
+        ancestral: front(&ancestral, sites),
+        site: front(&site, mutations),
+        node: front(&node, mutations),
+        derived: front(&derived, mutations),
+    };
+    record::keep(rec, states, done);
+    record::put_stocks(rec, done.population);
     true
 }
 
@@ -153,14 +119,13 @@ pub fn clean(w: &[u32], at: usize, rec: &mut [u32], states: &mut [u8]) -> bool {
     // The record is lent once for all its columns: each lending is a step to prove.
     let old: &[u32] = rec;
     let old_states: &[u8] = states;
-    let given = cases::column(old, 0, 11);
     let mut stocks = [0u16; NODES];
-    cases::narrow(given, &mut stocks);
-    let seen = answered(cleaner::clean(
+    let given = cases::narrow(cases::column(old, 0, 11), &mut stocks);
+    let answer = cleaner::clean(
         cases::get(w, 0),
         cases::column(old, 0, 0),
         cases::column(old, 0, 1),
-        cases::front_stocks(&stocks, given.len()),
+        given,
         cases::column(old, 0, 2),
         cases::column(old, 0, 3),
         cases::column(old, 0, 4),
@@ -185,29 +150,33 @@ pub fn clean(w: &[u32], at: usize, rec: &mut [u32], states: &mut [u8]) -> bool {
         &mut derived,
         &mut map,
         writing::within::BLOCK,
-    ));
-    if !seen.done {
-        return false;
-    }
-    record::keep_rows(
-        rec,
-        states,
-        seen.nodes,
-        seen.edges,
-        seen.sites,
-        seen.mutations,
-        &time,
-        &birth,
-        &population,
-        &left,
-        &right,
-        &parent,
-        &child,
-        &position,
-        &ancestral,
-        &site,
-        &node,
-        &derived,
     );
+    let Ok(
+        Counts {
+            nodes,
+            edges,
+            sites,
+            mutations,
+        },
+    ) = answer
+    else {
+        return false;
+    };
+    let done = Lent {
+        time: front(&time, nodes),
+        birth: front(&birth, nodes),
+        population: front(&population, nodes),
+        left: front(&left, edges),
+        right: front(&right, edges),
+        parent: front(&parent, edges),
+        child: front(&child, edges),
+        position: front(&position, sites),
+        ancestral: front(&ancestral, sites),
+        site: front(&site, mutations),
+        node: front(&node, mutations),
+        derived: front(&derived, mutations),
+    };
+    record::keep(rec, states, done);
+    record::put_stocks(rec, done.population);
     true
 }

@@ -2,6 +2,7 @@
 ghost use Rattle.std.specs.Prelude.{◌≤◌};
 
 use crate::{record, same, steps};
+use meaning::columns::Lent;
 
 // Where the parts of a history's numbers start: how many steps, the start record's pairs, the due end's pairs, the steps.
 const COUNT: usize = 1;
@@ -12,13 +13,16 @@ const DUE: usize = 26;
 
 const STEPS: usize = 50;
 
+// The cells of a step.
+const STEP: usize = 21;
+
 // Kinds of steps; any other is the last cleaning.
 const JOIN: u32 = 1;
 
 const CLEAN: u32 = 2;
 
 // What a history came to.
-#[derive(Drop)]
+#[derive(Clone, Copy, Debug, PartialEq, Eq)]
 pub enum End {
     Same,
     Refused,
@@ -30,50 +34,36 @@ pub enum End {
 fn place(k: usize) -> usize
     ensures { result ≤ 300000 }
 {
-    if 10000 < k {
-        return 0;
-    }
-    STEPS + 21 * k
+    if 10000 < k { 0 } else { STEPS + STEP * k }
 }
 
 // One step of a history; cleanings but the last only where all are asked for.
 fn step(w: &[u32], bytes: &[u8], k: usize, all: bool, rec: &mut [u32], states: &mut [u8]) -> bool {
     let at = place(k);
-    let kind = cases::get(w, at);
-    if kind == JOIN {
-        return steps::join(w, bytes, at + 1, rec, states);
+    match cases::get(w, at) {
+        JOIN => steps::join(w, bytes, at + 1, rec, states),
+        CLEAN if !all => true,
+        _ => steps::clean(w, at + 1, rec, states),
     }
-    if skipped(kind, all) {
-        return true;
-    }
-    steps::clean(w, at + 1, rec, states)
 }
 
-// Whether a step is left out.
-fn skipped(kind: u32, all: bool) -> bool {
-    if all {
-        return false;
-    }
-    kind == CLEAN
-}
-
-// Puts the start record in place.
+// Puts the start record in place, its populations in words as they stand.
 fn begin(w: &[u32], bytes: &[u8], rec: &mut [u32], states: &mut [u8]) {
-    record::keep(
-        rec,
-        states,
-        cases::column(w, START, 0),
-        cases::column(w, START, 1),
-        cases::column(w, START, 2),
-        cases::column(w, START, 3),
-        cases::column(w, START, 4),
-        cases::column(w, START, 5),
-        cases::column(w, START, 6),
-        cases::states(bytes, w, START, 7),
-        cases::column(w, START, 8),
-        cases::column(w, START, 9),
-        cases::states(bytes, w, START, 10),
-    );
+    let start = Lent {
+        time: cases::column(w, START, 0),
+        birth: cases::column(w, START, 1),
+        population: &[],
+        left: cases::column(w, START, 2),
+        right: cases::column(w, START, 3),
+        parent: cases::column(w, START, 4),
+        child: cases::column(w, START, 5),
+        position: cases::column(w, START, 6),
+        ancestral: cases::states(bytes, w, START, 7),
+        site: cases::column(w, START, 8),
+        node: cases::column(w, START, 9),
+        derived: cases::states(bytes, w, START, 10),
+    };
+    record::keep(rec, states, start);
     record::put_stocks(rec, cases::column(w, START, 11));
 }
 
@@ -81,12 +71,10 @@ fn begin(w: &[u32], bytes: &[u8], rec: &mut [u32], states: &mut [u8]) {
 fn run(w: &[u32], bytes: &[u8], all: bool, rec: &mut [u32], states: &mut [u8]) -> bool {
     begin(w, bytes, rec, states);
     let n = cases::get(w, COUNT) as usize;
-    let mut k = 0;
-    while k < n {
+    for k in 0..n {
         if !step(w, bytes, k, all, rec, states) {
             return false;
         }
-        k += 1;
     }
     true
 }

@@ -1,168 +1,43 @@
 // The reader on a case, and the writer on what it read.
 use crate::due;
-use stored::{ReadAnswer, Rows, WriteAnswer};
+use crate::due::Head;
+use cases::front;
+use meaning::columns::Lent;
+use stored::{Contents, Rows};
 
-// The first rows of a column.
-pub fn front32(a: &[u32], n: usize) -> &[u32] {
-    if n <= a.len() { &a[..n] } else { a }
-}
-
-pub fn front8(a: &[u8], n: usize) -> &[u8] {
-    if n <= a.len() { &a[..n] } else { a }
-}
-
-fn front16(a: &[u16], n: usize) -> &[u16] {
-    if n <= a.len() { &a[..n] } else { a }
-}
+// What stands in the cells that are written to, before.
+const MARK: u8 = 9;
 
 // Whether the rows that were read are written back byte for byte, and no byte after them changes.
-fn back(
-    bytes: &[u8],
-    len: u32,
-    n: Rows,
-    time: &[u32],
-    birth: &[u32],
-    population: &[u16],
-    left: &[u32],
-    right: &[u32],
-    parent: &[u32],
-    child: &[u32],
-    position: &[u32],
-    ancestral: &[u8],
-    site: &[u32],
-    node: &[u32],
-    derived: &[u8],
-    samples: &[u32],
-) -> bool {
-    let nodes = n.nodes;
-    let edges = n.edges;
-    let sites = n.sites;
-    let mutations = n.mutations;
-    let listed = n.samples;
-    let mut out = [9u8; 81920];
-    let answer = stored::write(
-        len,
-        front32(samples, listed),
-        front32(time, nodes),
-        front32(birth, nodes),
-        front16(population, nodes),
-        front32(left, edges),
-        front32(right, edges),
-        front32(parent, edges),
-        front32(child, edges),
-        front32(position, sites),
-        front8(ancestral, sites),
-        front32(site, mutations),
-        front32(node, mutations),
-        front8(derived, mutations),
-        &mut out,
-    );
-    match answer {
-        WriteAnswer::Refused(_) => false,
-        WriteAnswer::Done(count) => {
-            if 81919 < count {
-                return false;
-            }
-            out[count] == 9 && front8(&out, count) == bytes
-        }
+fn back(bytes: &[u8], len: u32, n: Rows, t: Lent<'_>, samples: &[u32]) -> bool {
+    let rows = Lent {
+        time: front(t.time, n.nodes),
+        birth: front(t.birth, n.nodes),
+        population: front(t.population, n.nodes),
+        left: front(t.left, n.edges),
+        right: front(t.right, n.edges),
+        parent: front(t.parent, n.edges),
+        child: front(t.child, n.edges),
+        position: front(t.position, n.sites),
+        ancestral: front(t.ancestral, n.sites),
+        site: front(t.site, n.mutations),
+        node: front(t.node, n.mutations),
+        derived: front(t.derived, n.mutations),
+    };
+    let mut out = [MARK; 81920];
+    match stored::write(len, rows, front(samples, n.samples), &mut out) {
+        Err(_) => false,
+        Ok(count) => out.get(count) == Some(&MARK) && front(&out, count) == bytes,
     }
 }
 
 // Whether an answer is the one due, with every cell of the lent columns after the call.
-fn held(
-    head: &[u8; 68],
-    r: ReadAnswer,
-    time: &[u32],
-    birth: &[u32],
-    population: &[u16],
-    left: &[u32],
-    right: &[u32],
-    parent: &[u32],
-    child: &[u32],
-    position: &[u32],
-    ancestral: &[u8],
-    site: &[u32],
-    node: &[u32],
-    derived: &[u8],
-    samples: &[u32],
-) -> bool {
-    let a = due::fold16(population, due::fold32(birth, due::fold32(time, 0)));
-    let b = due::fold32(
-        child,
-        due::fold32(parent, due::fold32(right, due::fold32(left, a))),
-    );
-    let c = due::fold8(ancestral, due::fold32(position, b));
-    let d = due::fold8(derived, due::fold32(node, due::fold32(site, c)));
-    due::agrees(head, due::answered(r), due::fold32(samples, d))
-}
-
-// The same, and what was read is written and gives back the bytes.
-fn judged(
-    bytes: &[u8],
-    head: &[u8; 68],
-    r: ReadAnswer,
-    time: &[u32],
-    birth: &[u32],
-    population: &[u16],
-    left: &[u32],
-    right: &[u32],
-    parent: &[u32],
-    child: &[u32],
-    position: &[u32],
-    ancestral: &[u8],
-    site: &[u32],
-    node: &[u32],
-    derived: &[u8],
-    samples: &[u32],
-) -> bool {
-    match r {
-        ReadAnswer::Refused(x) => held(
-            head,
-            ReadAnswer::Refused(x),
-            time,
-            birth,
-            population,
-            left,
-            right,
-            parent,
-            child,
-            position,
-            ancestral,
-            site,
-            node,
-            derived,
-            samples,
-        ),
-        ReadAnswer::Done { len, rows } => {
-            if !held(
-                head,
-                ReadAnswer::Done { len, rows },
-                time,
-                birth,
-                population,
-                left,
-                right,
-                parent,
-                child,
-                position,
-                ancestral,
-                site,
-                node,
-                derived,
-                samples,
-            ) {
-                return false;
-            }
-            back(
-                bytes, len, rows, time, birth, population, left, right, parent, child, position,
-                ancestral, site, node, derived, samples,
-            )
-        }
-    }
+fn held(head: &Head, answer: [u64; 8], t: Lent<'_>, samples: &[u32]) -> bool {
+    due::agrees(head, answer, due::fold_all(t, samples))
 }
 
 // Reads a case into columns with room for every limit.
-pub fn large(bytes: &[u8], head: &[u8; 68]) -> bool {
+pub fn large(bytes: &[u8], head: &Head) -> bool {
     let mut time = [7u32; 1024];
     let mut birth = [7u32; 1024];
     let mut population = [7u16; 1024];
@@ -176,7 +51,7 @@ pub fn large(bytes: &[u8], head: &[u8; 68]) -> bool {
     let mut node = [7u32; 1024];
     let mut derived = [7u8; 1024];
     let mut samples = [7u32; 256];
-    let r = stored::read(
+    let answer = stored::read(
         bytes,
         &mut time,
         &mut birth,
@@ -192,28 +67,30 @@ pub fn large(bytes: &[u8], head: &[u8; 68]) -> bool {
         &mut derived,
         &mut samples,
     );
-    judged(
-        bytes,
-        head,
-        r,
-        &time,
-        &birth,
-        &population,
-        &left,
-        &right,
-        &parent,
-        &child,
-        &position,
-        &ancestral,
-        &site,
-        &node,
-        &derived,
-        &samples,
-    )
+    let t = Lent {
+        time: &time,
+        birth: &birth,
+        population: &population,
+        left: &left,
+        right: &right,
+        parent: &parent,
+        child: &child,
+        position: &position,
+        ancestral: &ancestral,
+        site: &site,
+        node: &node,
+        derived: &derived,
+    };
+    match answer {
+        Err(x) => held(head, due::refused(x), t, &samples),
+        Ok(Contents { len, rows }) => {
+            held(head, due::done(len, rows), t, &samples) && back(bytes, len, rows, t, &samples)
+        }
+    }
 }
 
 // Reads a case into a few rows of room; the shortest column is another one in each table. Births and populations are lent.
-fn small(bytes: &[u8], head: &[u8; 68], birth: &mut [u32], population: &mut [u16]) -> bool {
+fn small(bytes: &[u8], head: &Head, birth: &mut [u32], population: &mut [u16]) -> bool {
     let mut time = [7u32; 4];
     let mut left = [7u32; 5];
     let mut right = [7u32; 5];
@@ -225,7 +102,7 @@ fn small(bytes: &[u8], head: &[u8; 68], birth: &mut [u32], population: &mut [u16
     let mut node = [7u32; 3];
     let mut derived = [7u8; 2];
     let mut samples = [7u32; 1];
-    let r = stored::read(
+    let answer = stored::read(
         bytes,
         &mut time,
         birth,
@@ -241,21 +118,36 @@ fn small(bytes: &[u8], head: &[u8; 68], birth: &mut [u32], population: &mut [u16
         &mut derived,
         &mut samples,
     );
-    held(
-        head, r, &time, birth, population, &left, &right, &parent, &child, &position, &ancestral,
-        &site, &node, &derived, &samples,
-    )
+    let t = Lent {
+        time: &time,
+        birth: birth,
+        population: population,
+        left: &left,
+        right: &right,
+        parent: &parent,
+        child: &child,
+        position: &position,
+        ancestral: &ancestral,
+        site: &site,
+        node: &node,
+        derived: &derived,
+    };
+    let numbers = match answer {
+        Err(x) => due::refused(x),
+        Ok(Contents { len, rows }) => due::done(len, rows),
+    };
+    held(head, numbers, t, &samples)
 }
 
 // The births' column is the shortest of the nodes.
-pub fn few_births(bytes: &[u8], head: &[u8; 68]) -> bool {
+pub fn few_births(bytes: &[u8], head: &Head) -> bool {
     let mut birth = [7u32; 3];
     let mut population = [7u16; 4];
     small(bytes, head, &mut birth, &mut population)
 }
 
 // That of the populations is.
-pub fn few_stocks(bytes: &[u8], head: &[u8; 68]) -> bool {
+pub fn few_stocks(bytes: &[u8], head: &Head) -> bool {
     let mut birth = [7u32; 4];
     let mut population = [7u16; 3];
     small(bytes, head, &mut birth, &mut population)

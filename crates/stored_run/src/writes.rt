@@ -1,8 +1,8 @@
 // Writes by hand, and what is answered: the refusals of a write in their order, and just room.
-use crate::due::{refusal, refused};
-use crate::reads::front32;
+use cases::front;
+use meaning::Told;
+use meaning::columns::Lent;
 use std::io;
-use stored::WriteAnswer;
 
 // Writes one edge and one mutation, some times, births, populations and samples, and says what is answered.
 fn wrote(
@@ -21,29 +21,27 @@ fn wrote(
     let p = [parent];
     let u = [node];
     let state = [65u8; 1];
-    let answer = stored::write(
-        10,
-        samples,
-        front32(&t, times),
-        front32(&t, births),
+    let tables = Lent {
+        time: front(&t, times),
+        birth: front(&t, births),
         population,
-        &one,
-        &one,
-        &p,
-        &one,
-        &one,
-        &state,
-        &one,
-        &u,
-        &state,
-        out,
-    );
-    let s = match answer {
-        WriteAnswer::Done(_) => refusal(0, 0),
-        WriteAnswer::Refused(x) => refused(x),
+        left: &one,
+        right: &one,
+        parent: &p,
+        child: &one,
+        position: &one,
+        ancestral: &state,
+        site: &one,
+        node: &u,
+        derived: &state,
     };
-    let number = s.number;
-    let row = s.row;
+    let (number, row) = match stored::write(10, tables, samples, out) {
+        Ok(_) => (0, 0),
+        Err(x) => {
+            let t = Told::from(x);
+            (t.number, t.row)
+        }
+    };
     rt.write_all(what)?;
     println!(rt; "{number} {row}")
 }

@@ -1,9 +1,0 @@
--- `history_run::main` is safe and ends: the turns fall. Assumes nothing.
-use Prim.Native.Nat.{◌≤◌}
-use Rattle.history_run.proofs.main.Given as goal
-
-abbrev pub invariant-loop-turns : goal.invariant-loop-turns
-invariant-loop-turns l = l.turns ≤ 100000
-
-abbrev pub decreases-loop-turns : goal.decreases-loop-turns
-decreases-loop-turns l = l.turns
