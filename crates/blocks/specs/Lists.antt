@@ -31,7 +31,7 @@ pub record FirstIs (most : ℕ) (birth sites fish : List ℕ) (x : Refusal) : Ty
 
 -- what is told of two lists that are not empty
 abbrev pub ListsTold : ℕ → List ℕ → List ℕ → List ℕ → Checked → Type 0
-ListsTold most birth sites fish Sound = AllThere most birth sites fish
+ListsTold most birth sites fish (Ok _) = AllThere most birth sites fish
 ListsTold most birth sites fish (Err x) = FirstIs most birth sites fish x
 
 -- ---- the first refusal of a list of answers

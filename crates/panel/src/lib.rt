@@ -63,19 +63,15 @@ fn panel_sound(
     if fish.len() == 0 {
         return Ok(0);
     }
-    lists::first_refused(birth, by_birth, position.len(), sites, fish) {
-        Err(r) => Err(r),
-        Ok(()) => {
-            if !block::both_have_room(fish.len(), sites.len(), states.len(), flags.len()) {
-                return Err(Refusal::NoRoom(Bytes::NUMBER));
-            }
-            fill::fill_blocks(
-                len, time, birth, left, right, parent, child, position, ancestral, site, node,
-                derived, by_child, by_birth, sites, fish, states, flags,
-            );
-            Ok(fish.len() * sites.len())
-        }
+    lists::first_refused(birth, by_birth, position.len(), sites, fish)?;
+    if !block::both_have_room(fish.len(), sites.len(), states.len(), flags.len()) {
+        return Err(Refusal::NoRoom(Bytes::NUMBER));
     }
+    fill::fill_blocks(
+        len, time, birth, left, right, parent, child, position, ancestral, site, node, derived,
+        by_child, by_birth, sites, fish, states, flags,
+    );
+    Ok(fish.len() * sites.len())
 }
 
 // The check of the tables, which leaves the edges by child and the nodes by birth in lent columns, and then the panel.
@@ -111,7 +107,7 @@ fn panel_lent(
 {
     let n = left.len();
     let m = birth.len();
-    match checker::check_lent(
+    checker::check_lent(
         len, time, birth, population, left, right, parent, child, position, ancestral, site, node,
         derived, by_child, by_birth,
     )?;
