@@ -11,7 +11,6 @@ use borrow.Author.Tests.{leb-true, leb-false}
 use Rattle.meaning.specs.declared.Refusal.{Refusal}
 use Rattle.meaning.specs.Answer.{Checked}
 use Rattle.std.specs.Prelude.{Ok, Err}
-use Rattle.meaning.specs.declared.Panel.TheVariants as answered
 use Rattle.meaning.specs.Words.{at, each}
 use Rattle.meaning.specs.Rows.{Tables}
 use Rattle.meaning.specs.Answer.{Answer, Stated, done, limits, accepted, refusal_of, checked_of}
@@ -85,7 +84,7 @@ told_refused most birth sites fish r x t e = subst (ListsTold most birth sites f
 pub told_sound : (most : ℕ) (birth sites fish : List ℕ) (r : Checked) → ListsTold most birth sites fish r → r ≡ Ok tt → AllThere most birth sites fish
 told_sound most birth sites fish r t e = subst (ListsTold most birth sites fish) e t
 
-pub refused_first : (L : ℕ) (T : Tables) (sites fish states flags : List ℕ) (r : Checked) (x : Refusal) → ListsTold (length T.sites.position) T.nodes.birth sites fish r → r ≡ Err x → panel_of (answered.Refused x) states flags ≡ after_check L T sites fish states flags
+pub refused_first : (L : ℕ) (T : Tables) (sites fish states flags : List ℕ) (r : Checked) (x : Refusal) → ListsTold (length T.sites.position) T.nodes.birth sites fish r → r ≡ Err x → panel_of (Err x) states flags ≡ after_check L T sites fish states flags
 refused_first L T sites fish states flags r x t e = first_refused-is L T sites fish states flags x (refused x) (told_refused (length T.sites.position) T.nodes.birth sites fish r x t e)
 
 pub short_of : {a b : ℕ} (t : Bool) → not t ≡ true → t ≡ leb a b → b < a
@@ -143,7 +142,7 @@ module _ (L : ℕ) (T : Tables) (c : Checked) (e : checked_of c ≡ check_then l
 
   module _ (sites fish states flags : List ℕ) where
     -- the check's refusal is the call's
-    pub whole_refused : (r : Refusal) → c ≡ Err r → panel_of (answered.Refused r) states flags ≡ panel limits L T sites fish states flags
+    pub whole_refused : (r : Refusal) → c ≡ Err r → panel_of (Err r) states flags ≡ panel limits L T sites fish states flags
     unfolding panel panel_answer
     whole_refused r q = sym
         (ap (λ (a : Answer). panel_end a (singles limits L T sites fish) states flags) (sym (stops (check_then limits L T) hand c e r q (first_refused (singles limits L T sites fish) (room_then states flags (length (singles limits L T sites fish))))) ∙ ap checked_of q)
