@@ -2,4 +2,3 @@
 pub mod Filling
 pub mod Climbing
 pub mod Calling
-pub mod Whole
