@@ -73,14 +73,12 @@ module _ (L : ℕ) (T : Tables) (by : List ℕ) (I : Index) (ok : Prepared L T b
   few_rows = omega (arith, ok.readable.few)
 
   -- columns that are long enough can be worked on
-  pub ready : {par until kid kid_until own told state : List ℕ} → Long n (work_of par until kid kid_until own told state) → Ready T.nodes.time T.edges L by I.ends I.edge_first I.edge_past par until kid kid_until own told state
+  pub ready : {par until kid kid_until own told state : List ℕ} → Long n (work_of par until kid kid_until own told state) → Ready T.nodes.time T.edges I.ends I.edge_first I.edge_past par kid own told state
   ready w = record {
     asking = record {
       keeping = record {
-        indexed = record { even = ok.readable.rising.even; whole = ok.readable.whole; order = ok.readable.order; ends = ok.ends };
         ends_long = ok.ends_long;
         par_long = w.par;
-        until_long = w.until;
       };
       rising = ok.readable.rising;
       few = few_rows;
@@ -88,7 +86,6 @@ module _ (L : ℕ) (T : Tables) (by : List ℕ) (I : Index) (ok : Prepared L T b
       first_long = ok.edge_first_long;
       past_long = ok.edge_past_long;
       kid_long = w.kid;
-      kid_until_long = w.kid_until;
       own_long = w.own;
     };
     told_long = w.told;
@@ -157,12 +154,10 @@ module _ (L : ℕ) (T : Tables) (by : List ℕ) (I : Index) (ok : Prepared L T b
         }
 
 -- columns of the same lengths are long enough
-pub still_long : {n : ℕ} {par until kid kid_until own told state par' until' kid' kid_until' own' told' state' : List ℕ} → length par' ≡ length par → length until' ≡ length until → length kid' ≡ length kid → length kid_until' ≡ length kid_until → length own' ≡ length own → length told' ≡ length told → length state' ≡ length state → Long n (work_of par until kid kid_until own told state) → Long n (work_of par' until' kid' kid_until' own' told' state')
-still_long a b d e f g h w = record {
+pub still_long : {n : ℕ} {par until kid kid_until own told state par' until' kid' kid_until' own' told' state' : List ℕ} → length par' ≡ length par → length kid' ≡ length kid → length own' ≡ length own → length told' ≡ length told → length state' ≡ length state → Long n (work_of par until kid kid_until own told state) → Long n (work_of par' until' kid' kid_until' own' told' state')
+still_long a d f g h w = record {
   par = omega (arith, w.par);
-  until = omega (arith, w.until);
   kid = omega (arith, w.kid);
-  kid_until = omega (arith, w.kid_until);
   own = omega (arith, w.own);
   told = omega (arith, w.told);
   state = omega (arith, w.state);
