@@ -41,6 +41,13 @@ module _ {E : EdgeColumns} {x last : ℕ} {until₀ kid_until₀ until kid_until
       go (inl h) = subst (λ (u : List ℕ). KidsKnown E x kid u) (sym h.2) (children.known_on x h.0 k)
       go (inr h) = children.none_known h.1
 
+-- columns that are equal hold the same
+pub same_parents : {E : EdgeColumns} {x : ℕ} {par par' until : List ℕ} → par' ≡ par → Known E x par until → Known E x par' until
+same_parents {E} {x} {until = until} e k = subst (λ (p : List ℕ). Known E x p until) (sym e) k
+
+pub same_children : {E : EdgeColumns} {x : ℕ} {kid kid' until : List ℕ} → kid' ≡ kid → KidsKnown E x kid until → KidsKnown E x kid' until
+same_children {E} {x} {until = until} e k = subst (λ (p : List ℕ). KidsKnown E x p until) (sym e) k
+
 -- ---- a stamp that no row has
 
 pub stamp_after : {t : ℕ} {own told : List ℕ} → ((v : ℕ) → at own v ≤ t) → ((v : ℕ) → at told v ≤ t) → Unstamped (t + 1) own told

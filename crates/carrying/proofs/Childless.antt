@@ -3,6 +3,7 @@ use mathlib.Core.Path.{◌≡◌, refl, sym, ap, ◌∙◌}
 use mathlib.Core.Bool.{Bool, true, false}
 use mathlib.Core.List.{List}
 use mathlib.Core.Logic.{◌⊎◌, inl, inr, ⊎_elim}
+use mir.Val.{bool_byte}
 use Prim.Native.Nat.{ℕ, ◌+◌, ◌<◌, ◌≤◌, min}
 use native.Mathlib.Omega.{arith}
 use lib.Dec.{eqb, leb, ltb}
@@ -98,8 +99,8 @@ module _ {left parent : List ℕ} {x u e end : ℕ} where
   pub begun_edge : at left e ≤ x → Sooner left parent x u e end end
   begun_edge h = record { before = omega arith; begin = λ q l. omega arith }
 
-  pub begin_first : Sooner left parent x u e end (min end (at left e))
-  begin_first = record { before = omega arith; begin = λ q l. omega arith }
+  pub begin_first : {r : ℕ} → r ≡ min end (at left e) → Sooner left parent x u e end r
+  begin_first e = record { before = omega (arith, e); begin = λ q l. omega (arith, e) }
 
 -- ---- what is kept
 
@@ -112,7 +113,7 @@ pub known_on : {E : EdgeColumns} {x : ℕ} {kid ends : List ℕ} (y : ℕ) → x
 known_on y h k = record { cell = λ u z l m. k.cell u z l (omega arith) }
 
 -- the byte that is kept
-pub byte_is : (b : Bool) → eqb (bool_nat b) 1 ≡ b
+pub byte_is : (b : Bool) → eqb (bool_byte b) 1 ≡ b
 byte_is true = refl
 byte_is false = refl
 

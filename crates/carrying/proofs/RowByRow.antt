@@ -13,13 +13,15 @@ use borrow.Author.Tests.{eq-eqb, ne_eqb}
 use Rattle.meaning.specs.Words.{at, or}
 use Rattle.meaning.specs.Rows.{EdgeColumns}
 use Rattle.meaning.specs.Allele.{found}
-use Rattle.laws.specs.Bools.{eq?, or_right}
+use Rattle.laws.specs.Bools.{clash, eq?, or_right}
 use Rattle.bridge.specs.Parents.{parent_row}
 use Rattle.overtaking.proofs.Knowing.{still_keeping}
 use Rattle.missing.specs.Alone.{child_row}
 use Rattle.carrying.specs.Told.{Upwards, Handed, Told, Owned, Carried}
 use Rattle.carrying.specs.Column.{missing_by, told_by, state_by, flag_by, Ready, RowTold, RowsTold}
 use Rattle.std.specs.Prelude.{Some, None}
+use Rattle.std.specs.Option.{unwrap_or, is_some}
+use mir.Val.{bool_byte}
 use Rattle.std.specs.Prelude.{Option as Read}
 
 -- ---- whether a row is missing
@@ -79,24 +81,36 @@ state_byte : (b : Bool) (a : ℕ) → unwrap_or (told_by b a) 0 ≡ state_by b a
 state_byte true a = refl
 state_byte false a = refl
 
-flag_byte : (b : Bool) (a : ℕ) → bool_nat (is_none (told_by b a)) ≡ flag_by b
-flag_byte true a = refl
-flag_byte false a = refl
+flag_byte : (b c : Bool) (a : ℕ) → is_some (told_by b a) ≡ not c → bool_byte c ≡ flag_by b
+flag_byte true true a e = refl
+flag_byte true false a e = absurd (clash (sym e) refl)
+flag_byte false true a e = absurd (clash refl e)
+flag_byte false false a e = refl
 
-pub one_more : {E : EdgeColumns} {x n other t : ℕ} {own told₀ state₀ rows : List ℕ} {j : ℕ} {states flags told state : List ℕ} {r : Read ℕ} {told' state' : List ℕ} → j < length states → j < length flags → RowsTold E x n other t own told₀ state₀ rows j states flags told state → RowTold E x n other t own told state (at rows j) r told' state' → RowsTold E x n other t own told₀ state₀ rows (j + 1) (set states j (unwrap_or r 0)) (set flags j (bool_nat (is_none r))) told' state'
-one_more {E} {x} {n} {other} {t} {own} {told₀} {state₀} {rows} {j} {states} {flags} {told} {state} {r} a b w f = record {
+pub one_more : {E : EdgeColumns} {x n other t : ℕ} {own told₀ state₀ rows : List ℕ} {j : ℕ} {states flags told state : List ℕ} {r : Read ℕ} {s : ℕ} (c : Bool) {told' state' : List ℕ} → j < length states → j < length flags → s ≡ unwrap_or r 0 → is_some r ≡ not c → RowsTold E x n other t own told₀ state₀ rows j states flags told state → RowTold E x n other t own told state (at rows j) r told' state' → RowsTold E x n other t own told₀ state₀ rows (j + 1) (set states j s) (set flags j (bool_byte c)) told' state'
+one_more {E} {x} {n} {other} {t} {own} {told₀} {state₀} {rows} {j} {states} {flags} {told} {state} {r} {s} c a b p q w f = record {
   byte = λ K A h o k i l. byte K A h o k i l (eq? i j);
   mark = λ K A h o k i l. mark K A h o k i l (eq? i j);
   still = λ K A h o k. f.still K A h o (w.still K A h o k);
 }
   where
-    byte : (K : ℕ → Bool) (A : ℕ → ℕ) → Handed E x n other K A → Owned n t K own → Told n t K A told₀ state₀ → (i : ℕ) → i < j + 1 → (i ≡ j) ⊎ (i ≡ j → ⊥) → at (set states j (unwrap_or r 0)) i ≡ state_by (missing_by E x (K (at rows i)) (at rows i)) (A (at rows i))
-    byte K A h o k i l (inl z) = ap (at (set states j (unwrap_or r 0))) z ∙ get_or-set_same states j (unwrap_or r 0) 0 a ∙ ap (λ (q : Read ℕ). unwrap_or q 0) (f.byte K A h o (w.still K A h o k)) ∙ state_byte (missing_by E x (K (at rows j)) (at rows j)) (A (at rows j)) ∙ ap (λ (m : ℕ). state_by (missing_by E x (K (at rows m)) (at rows m)) (A (at rows m))) (sym z)
-    byte K A h o k i l (inr z) = get_or-set_other states j i (unwrap_or r 0) 0 z ∙ w.byte K A h o k i (omega arith)
+    byte : (K : ℕ → Bool) (A : ℕ → ℕ) → Handed E x n other K A → Owned n t K own → Told n t K A told₀ state₀ → (i : ℕ) → i < j + 1 → (i ≡ j) ⊎ (i ≡ j → ⊥) → at (set states j s) i ≡ state_by (missing_by E x (K (at rows i)) (at rows i)) (A (at rows i))
+    byte K A h o k i l (inl z) =
+        ap (at (set states j s)) z
+        ∙ get_or-set_same states j s 0 a
+        ∙ p
+        ∙ ap (λ (q : Read ℕ). unwrap_or q 0) (f.byte K A h o (w.still K A h o k))
+        ∙ state_byte (missing_by E x (K (at rows j)) (at rows j)) (A (at rows j))
+        ∙ ap (λ (m : ℕ). state_by (missing_by E x (K (at rows m)) (at rows m)) (A (at rows m))) (sym z)
+    byte K A h o k i l (inr z) = get_or-set_other states j i s 0 z ∙ w.byte K A h o k i (omega arith)
 
-    mark : (K : ℕ → Bool) (A : ℕ → ℕ) → Handed E x n other K A → Owned n t K own → Told n t K A told₀ state₀ → (i : ℕ) → i < j + 1 → (i ≡ j) ⊎ (i ≡ j → ⊥) → at (set flags j (bool_nat (is_none r))) i ≡ flag_by (missing_by E x (K (at rows i)) (at rows i))
-    mark K A h o k i l (inl z) = ap (at (set flags j (bool_nat (is_none r)))) z ∙ get_or-set_same flags j (bool_nat (is_none r)) 0 b ∙ ap (λ (q : Read ℕ). bool_nat (is_none q)) (f.byte K A h o (w.still K A h o k)) ∙ flag_byte (missing_by E x (K (at rows j)) (at rows j)) (A (at rows j)) ∙ ap (λ (m : ℕ). flag_by (missing_by E x (K (at rows m)) (at rows m))) (sym z)
-    mark K A h o k i l (inr z) = get_or-set_other flags j i (bool_nat (is_none r)) 0 z ∙ w.mark K A h o k i (omega arith)
+    mark : (K : ℕ → Bool) (A : ℕ → ℕ) → Handed E x n other K A → Owned n t K own → Told n t K A told₀ state₀ → (i : ℕ) → i < j + 1 → (i ≡ j) ⊎ (i ≡ j → ⊥) → at (set flags j (bool_byte c)) i ≡ flag_by (missing_by E x (K (at rows i)) (at rows i))
+    mark K A h o k i l (inl z) =
+        ap (at (set flags j (bool_byte c))) z
+        ∙ get_or-set_same flags j (bool_byte c) 0 b
+        ∙ flag_byte (missing_by E x (K (at rows j)) (at rows j)) c (A (at rows j)) (sym (ap (λ (q : Read ℕ). is_some q) (f.byte K A h o (w.still K A h o k))) ∙ q)
+        ∙ ap (λ (m : ℕ). flag_by (missing_by E x (K (at rows m)) (at rows m))) (sym z)
+    mark K A h o k i l (inr z) = get_or-set_other flags j i (bool_byte c) 0 z ∙ w.mark K A h o k i (omega arith)
 
 pub all_told : {E : EdgeColumns} {x n other t : ℕ} {own told₀ state₀ rows : List ℕ} {j k : ℕ} {states flags told state : List ℕ} → k ≤ j → RowsTold E x n other t own told₀ state₀ rows j states flags told state → RowsTold E x n other t own told₀ state₀ rows k states flags told state
 all_told m w = record { byte = λ K A h o q i l. w.byte K A h o q i (omega arith); mark = λ K A h o q i l. w.mark K A h o q i (omega arith); still = w.still }

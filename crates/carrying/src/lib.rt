@@ -7,7 +7,7 @@ ghost use Rattle.std.specs.Prelude.{◌≡◌, ℕ, ◌<◌, ◌≤◌, length};
 ghost use Rattle.meaning.specs.Words.{at};
 ghost use Rattle.meaning.specs.Columns.{tables_in};
 ghost use Rattle.carrying.specs.Cells.{ColumnAt};
-ghost use Rattle.carrying.specs.Lent.{IsPrepared, KeptIn};
+ghost use Rattle.carrying.specs.Lent.{IsPrepared, work_in, KeptAt};
 
 pub mod spans; // where the rows that name a number lie
 pub mod kids; // whether a row has a child, kept up to where that changes
@@ -35,54 +35,54 @@ pub struct Filled<'a> {
     pub muts: SpanColumns<'a>,
 }
 
-// What is kept from site to site: answers of the lookups, the stamps of rows with a mutation of their own and of rows whose state is
-// told, these states, the position last asked and the stamp last given.
-#[derive(Drop)]
-pub struct Work<'a> {
-    pub kept: Kept<'a>,
-    pub kids: Kids<'a>,
-    pub own: &'a mut [u32],
-    pub told: &'a mut [u32],
-    pub state: &'a mut [u8],
+// Where the sites told so far have come to: the position last asked, and the stamp last given.
+#[derive(Clone, Copy)]
+pub struct Trail {
     pub last: u32,
     pub stamp: u32,
 }
 
-// The bytes of the rows listed at site row i, with a stamp that no row has yet. Answers are kept from the position last asked, and
-// thrown away where this site lies before it.
+// The bytes of the rows listed at site row i, with a stamp that no row has yet. Kept from site to site are answers of the lookups, the
+// stamps of rows with a mutation of their own and of rows whose state is told, and these states. The answers are kept from the position
+// last asked, and thrown away where this site lies before it.
 pub fn tell_site(
     filled: Filled,
     i: u32,
-    work: &mut Work,
+    trail: Trail,
+    kept: &mut Kept,
+    kids: &mut Kids,
+    own: &mut [u32],
+    told: &mut [u32],
+    state: &mut [u8],
     rows: &[u32],
     k: usize,
     states: &mut [u8],
     flags: &mut [u8],
-)
+) -> Trail
     requires { IsPrepared filled ×
-        KeptIn (tables_in filled.tables) work.old ×
+        KeptAt (tables_in filled.tables) trail (work_in kept.old kids.old own.old told.old state.old) ×
         (i < length filled.tables.sites.position.now) ×
         (k ≤ length rows.now) ×
         (k ≤ length states.old) ×
         (k ≤ length flags.old) ×
         ((j : ℕ) → j < k → at rows.now j < length filled.tables.ages.time.now) }
     ensures column { ColumnAt (tables_in filled.entry.tables) i k rows.now states.new flags.new }
-    ensures kept { KeptIn (tables_in filled.entry.tables) work.new }
-    ensures last { work.new.last ≡ at filled.entry.tables.sites.position.now i }
+    ensures kept { KeptAt (tables_in filled.entry.tables) result (work_in kept.new kids.new own.new told.new state.new) }
+    ensures last { result.last ≡ at filled.entry.tables.sites.position.now i }
 {
     let at = i as usize;
     let x = filled.tables.sites.position[at];
-    fresh::forget(x, work.last, &mut work.kept, &mut work.kids);
-    let s = fresh::next_stamp(work.stamp, work.own, work.told);
+    fresh::forget(x, trail.last, kept, kids);
+    let stamp = fresh::next_stamp(trail.stamp, own, told);
     marks::mark_site(
         filled.tables.mutations,
         i,
         filled.muts.first[at],
         filled.muts.past[at],
-        s,
-        work.own,
-        work.told,
-        work.state,
+        stamp,
+        own,
+        told,
+        state,
     );
     let index = EdgeIndex {
         len: filled.len,
@@ -95,18 +95,17 @@ pub fn tell_site(
         filled.tables.ages.time,
         filled.parents,
         x,
-        s,
+        stamp,
         filled.tables.sites.ancestral[at],
-        &mut work.kept,
-        &mut work.kids,
-        work.own,
-        work.told,
-        work.state,
+        kept,
+        kids,
+        own,
+        told,
+        state,
         rows,
         k,
         states,
         flags,
     );
-    work.last = x;
-    work.stamp = s;
+    Trail { last: x, stamp }
 }

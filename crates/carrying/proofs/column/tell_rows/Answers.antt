@@ -30,7 +30,7 @@ loop-j-preserved c = record {
   flags_long = simp length-set c.loop-j.invariant.flags_long;
   known = c.tell_row-carried.ensures.known;
   kids = c.tell_row-carried.ensures.kids;
-  rows = one_more (omega (arith, c.loop-j-test.true, c.requires.4, c.loop-j.invariant.states_long)) (omega (arith, c.loop-j-test.true, c.requires.5, c.loop-j.invariant.flags_long)) c.loop-j.invariant.rows c.tell_row-carried.ensures.row;
+  rows = one_more _ (omega (arith, c.loop-j-test.true, c.requires.4, c.loop-j.invariant.states_long)) (omega (arith, c.loop-j-test.true, c.requires.5, c.loop-j.invariant.flags_long)) c.unwrap_or.ensures c.is_none.ensures c.loop-j.invariant.rows c.tell_row-carried.ensures.row;
 }
 
 pub shape_of-told : goal.shape_of-told

@@ -9,4 +9,4 @@ pub returns-then-begin-x : goal.returns-then-begin-x
 returns-then-begin-x c = begun_edge c.if-begin-x.true
 
 pub returns : goal.returns
-returns c = begin_first
+returns c = begin_first c.min.ensures

@@ -12,11 +12,11 @@ loop-j-init c = begin c.requires.3
 pub bounds-mutations-j : goal.bounds-mutations-j
 bounds-mutations-j c = omega (arith, c.loop-j-test.true, c.requires.3.inside)
 
-pub bounds-mutations-j-2 : goal.bounds-mutations-j-2
-bounds-mutations-j-2 c = omega (arith, c.loop-j-test.true, c.requires.3.inside, c.requires.0.node_long)
+pub bounds-mutations-j-then-mutations-j : goal.bounds-mutations-j-then-mutations-j
+bounds-mutations-j-then-mutations-j c = omega (arith, c.loop-j-test.true, c.requires.3.inside, c.requires.0.node_long)
 
-pub bounds-mutations-j-3 : goal.bounds-mutations-j-3
-bounds-mutations-j-3 c = omega (arith, c.loop-j-test.true, c.requires.3.inside, c.requires.0.derived_long)
+pub bounds-mutations-j-then-mutations-j-2 : goal.bounds-mutations-j-then-mutations-j-2
+bounds-mutations-j-then-mutations-j-2 c = omega (arith, c.loop-j-test.true, c.requires.3.inside, c.requires.0.derived_long)
 
 pub leave_state-requires : goal.leave_state-requires
 leave_state-requires c = (omega (arith, c.requires.0.node_row c.loop-j.j (omega (arith, c.loop-j-test.true, c.requires.3.inside)), c.loop-j.invariant.own_long), omega (arith, c.requires.1.node_row c.loop-j.j (omega (arith, c.loop-j-test.true, c.requires.3.inside)), c.loop-j.invariant.told_long), omega (arith, c.requires.2.node_row c.loop-j.j (omega (arith, c.loop-j-test.true, c.requires.3.inside)), c.loop-j.invariant.state_long))
