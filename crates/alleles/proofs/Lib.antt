@@ -2,3 +2,4 @@
 pub mod Filling
 pub mod Climbing
 pub mod Calling
+pub mod Whole

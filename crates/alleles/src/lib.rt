@@ -9,6 +9,8 @@ ghost use Rattle.meaning.specs.Columns.{mutations_in, tables_in, lent_in};
 ghost use Rattle.meaning.specs.Answer.{allele_of, done, limits};
 ghost use Rattle.meaning.specs.Allele.{allele};
 ghost use Rattle.order.specs.Ranks.{Ranked};
+ghost use Rattle.rules.specs.Evened.{aged_in};
+ghost use Rattle.checker.specs.Found.{Shaped};
 ghost use Rattle.alleles.specs.Call.{read_of, read_allele};
 ghost use Rattle.missing.specs.Marks.{mark_after, state_after, Naming, marks_of, states_of};
 ghost use Rattle.alleles.specs.Reading.{Readable};
@@ -17,7 +19,7 @@ pub mod climb; // the first marked row at or above a row
 
 use ancestry::edge_index::EdgeIndex;
 use meaning::Refusal;
-use meaning::columns::{Lent, MutationColumns, Tables};
+use meaning::columns::{Ages, EdgeColumns, Lent, MutationColumns, SiteColumns, Tables};
 
 // The first marked row at or above a row, where there is one, and the end of the stretch in which the way to it is the same.
 #[derive(Drop)]
@@ -132,4 +134,59 @@ fn read_allele(
         Some(u) => row_allele(len, tables, by_child, i, u as u32),
         None => Err(Refusal::NoBirth),
     }
+}
+
+// The tables lent, without the populations: what the check has passed is even.
+pub fn evened(lent: Lent) -> Tables
+    requires { Shaped (lent_in lent) }
+    ensures { tables_in result ≡ aged_in lent.entry }
+{
+    Tables {
+        ages: Ages {
+            time: lent.time,
+            birth: lent.birth,
+        },
+        edges: EdgeColumns {
+            left: lent.left,
+            right: lent.right,
+            parent: lent.parent,
+            child: lent.child,
+        },
+        sites: SiteColumns {
+            position: lent.position,
+            ancestral: lent.ancestral,
+        },
+        mutations: MutationColumns {
+            site: lent.site,
+            node: lent.node,
+            derived: lent.derived,
+        },
+    }
+}
+
+// The check of the tables, which leaves the edges by child and the nodes by birth in lent columns, and then the allele.
+fn allele_lent(
+    len: u32,
+    lent: Lent,
+    by_child: &mut [u32],
+    by_birth: &mut [u32],
+    i: u32,
+    b: u32,
+) -> Result<Option<u8>, Refusal>
+    requires { (length by_child.old ≡ 4096) × (length by_birth.old ≡ 1024) }
+    ensures { allele_of result ≡ allele limits len (lent_in lent.entry) i b }
+{
+    let n = lent.left.len();
+    let m = lent.birth.len();
+    checker::check_lent(len, lent, by_child, by_birth)?;
+    read_allele(len, evened(lent), &by_child[..n], &by_birth[..m], i, b)
+}
+
+// 01's allele call: the state that the fish b carries at site row i, that it is missing there, or the refusal.
+pub fn allele(len: u32, lent: Lent, i: u32, b: u32) -> Result<Option<u8>, Refusal>
+    ensures { allele_of result ≡ allele limits len (lent_in lent.entry) i b }
+{
+    let mut by_child = [0u32; meaning::EdgeTable::MOST];
+    let mut by_birth = [0u32; meaning::NodeTable::MOST];
+    allele_lent(len, lent, &mut by_child, &mut by_birth, i, b)
 }

@@ -17,7 +17,7 @@ use Rattle.carrying.proofs.Childless.{le_or_lt}
 use Rattle.carrying.proofs.Childless as children
 
 -- a column of zeros
-zero_cells : (n v : ℕ) → at (replicate n 0) v ≡ 0
+pub zero_cells : (n v : ℕ) → at (replicate n 0) v ≡ 0
 zero_cells zero v = refl
 zero_cells (suc n) zero = refl
 zero_cells (suc n) (suc v) = zero_cells n v

@@ -83,7 +83,7 @@ state_byte false a = refl
 
 flag_byte : (b c : Bool) (a : ℕ) → is_some (told_by b a) ≡ not c → bool_byte c ≡ flag_by b
 flag_byte true true a e = refl
-flag_byte true false a e = absurd (clash (sym e) refl)
+flag_byte true false a e = absurd (clash refl (sym e))
 flag_byte false true a e = absurd (clash refl e)
 flag_byte false false a e = refl
 

@@ -1,7 +1,6 @@
 -- `marks_at` meets its contract: the columns are cleared and then filled.
 use mathlib.Core.Path.{sym, ◌∙◌}
-use lib.ListN.{length}
-use Rattle.alleles.proofs.Filling.{cleared_long, longer, marks_from, states_from}
+use Rattle.alleles.proofs.Filling.{longer, marks_from, states_from}
 use Rattle.alleles.proofs.marks_at.Goals as goal
 
 pub leave_states-requires : goal.leave_states-requires
