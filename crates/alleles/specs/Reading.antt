@@ -10,7 +10,7 @@ use Rattle.bridge.specs.Parents.{parent_row}
 use Rattle.bridge.specs.Columns.{Apart}
 use Rattle.rules.specs.ByChild.{ByChild}
 use Rattle.ancestry.specs.Column.{older, Rising}
-use Rattle.ancestry.specs.Index.{Whole, Indexed}
+use Rattle.ancestry.specs.Index.{Whole}
 use Rattle.ancestry.specs.Stretch.{near_until}
 use Rattle.alleles.specs.declared.Carrier.{Carrier}
 use Rattle.missing.specs.Marks.{marked, Naming}

@@ -6,11 +6,10 @@ ghost use Rattle.missing.specs.Climbable.{Climbable};
 ghost use Rattle.alleles.specs.Reading.{CarrierAt, carried_by};
 ghost use Rattle.alleles.specs.Stops.{Led};
 
+use super::Carrier;
 use ancestry::ParentColumn;
 use ancestry::edge_index::EdgeIndex;
 use std::ops::ControlFlow;
-
-use super::Carrier;
 
 // Climbs from row u, with the least end met below it: to the first marked row or the top, or, when its calls are used up, to the row to
 // go on from with the least end met. It calls itself; the number of older rows falls.

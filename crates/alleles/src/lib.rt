@@ -58,13 +58,7 @@ fn leave_states(mutations: MutationColumns, i: u32, has: &mut [u8], state: &mut 
 }
 
 // The marks and the last states at site row i; a node with no mutation there has the mark 0 and the other state.
-pub fn marks_at(
-    mutations: MutationColumns,
-    i: u32,
-    other: u8,
-    has: &mut [u8],
-    state: &mut [u8],
-)
+pub fn marks_at(mutations: MutationColumns, i: u32, other: u8, has: &mut [u8], state: &mut [u8])
     requires { Naming (mutations_in mutations) (length has.old) × (length state.old ≡ length has.old) }
     ensures { (has.new ≡ marks_of
         (mutations_in mutations.entry) i (length has.old)) × (state.new ≡ states_of
@@ -104,15 +98,7 @@ pub fn row_allele(
     if missing::is_missing(index, tables.ages.time, &has, x, u) {
         return Ok(None);
     }
-    Ok(Some(climb::carried(
-        index,
-        tables.ages.time,
-        &has,
-        &state,
-        other,
-        x,
-        u,
-    )))
+    Ok(Some(climb::carried(index, tables.ages.time, &has, &state, other, x, u)))
 }
 
 // The allele of the fish b at site row i, of tables that the check does not refuse, with the orders that it leaves.

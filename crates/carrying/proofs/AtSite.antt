@@ -11,11 +11,10 @@ use Rattle.meaning.specs.Words.{at, any, rows, rows_from}
 use Rattle.meaning.specs.Rows.{Mutation, MutationColumns, Tables, muts_of}
 use Rattle.meaning.specs.Allele.{sits, carries, last_state}
 use Rattle.laws.specs.Bools.{clash}
-use Rattle.laws.specs.Counting.{get_rows}
 use Rattle.bridge.specs.Parents.{no_row}
 use Rattle.bridge.specs.Sites.{mutation_row, any_end, any_miss, last_hit, last_miss}
 use Rattle.overtaking.specs.Known.{Known}
-use Rattle.missing.specs.Marks.{marked, Naming, mark, marks_of, states_of}
+use Rattle.missing.specs.Marks.{marked, Naming}
 use Rattle.missing.specs.Alone.{missing_row}
 use Rattle.alleles.specs.ByRows.{marks_at-is, states_at-is}
 use Rattle.carrying.specs.Kids.{KidsKnown}

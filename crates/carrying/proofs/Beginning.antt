@@ -1,14 +1,12 @@
 -- What a new site begins with: cleared cells, and answers that hold from its position on.
 use mathlib.Core.Path.{◌≡◌, refl, sym, ap, subst, ◌∙◌}
-use mathlib.Core.List.{List, [], ◌∷◌}
+use mathlib.Core.List.{List}
 use mathlib.Core.Logic.{◌⊎◌, inl, inr}
-use Prim.Native.Nat.{ℕ, zero, suc, ◌+◌, ◌<◌, ◌≤◌}
+use Prim.Native.Nat.{ℕ, zero, suc, ◌+◌, ◌≤◌}
 use native.Mathlib.Omega.{arith}
 use lib.ListN.{replicate}
-use lib.Seq.{get_or-set_same, get_or-set_other}
 use Rattle.meaning.specs.Words.{at}
 use Rattle.meaning.specs.Rows.{EdgeColumns}
-use Rattle.laws.specs.Bools.{eq?}
 use Rattle.overtaking.specs.Known.{Known}
 use Rattle.overtaking.proofs.Knowing.{known_on, none_known}
 use Rattle.carrying.specs.Kids.{KidsKnown}

@@ -1,5 +1,5 @@
 -- What is filled in once for a call, and what is kept from site to site.
-use Rattle.std.specs.Prelude.{◌≡◌, List, ℕ, ◌<◌, ◌≤◌, length}
+use Rattle.std.specs.Prelude.{List, ℕ, ◌<◌, ◌≤◌, length}
 use Rattle.meaning.specs.Words.{at}
 use Rattle.meaning.specs.Rows.{Tables}
 use Rattle.ancestry.specs.Index.{Ends}

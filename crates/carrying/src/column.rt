@@ -6,12 +6,11 @@ ghost use Rattle.overtaking.specs.Known.{Known};
 ghost use Rattle.carrying.specs.Kids.{KidsKnown};
 ghost use Rattle.carrying.specs.Column.{missing_by, Asking, Ready, RowTold, RowsTold};
 
+use crate::kids::Kids;
+use crate::spans::SpanColumns;
 use ancestry::ParentColumn;
 use ancestry::edge_index::EdgeIndex;
 use overtaking::known::Kept;
-
-use crate::kids::Kids;
-use crate::spans::SpanColumns;
 
 // Whether row u is missing at x: it has no mutation of its own, no parent and no child there.
 fn is_missing(
@@ -77,9 +76,7 @@ fn tell_row(
     if is_missing(index, time, parents, x, t, kept, kids, own, u) {
         return None;
     }
-    Some(crate::carry::carried(
-        index, time, x, t, other, kept, told, state, u,
-    ))
+    Some(crate::carry::carried(index, time, x, t, other, kept, told, state, u))
 }
 
 // The two bytes of each of the first k rows listed: the state, and 1 where the row is missing.

@@ -3,9 +3,8 @@ ghost use Rattle.std.specs.Prelude.{◌≡◌, ℕ, ◌≤◌};
 ghost use Rattle.meaning.specs.Words.{at};
 ghost use Rattle.carrying.specs.Fresh.{Unstamped, Forgotten};
 
-use overtaking::known::Kept;
-
 use crate::kids::Kids;
+use overtaking::known::Kept;
 
 // A stamp that no row has: one more than the last, or 1 after all stamps are taken off where there is none above it.
 pub fn next_stamp(t: u32, own: &mut [u32], told: &mut [u32]) -> u32

@@ -6,9 +6,8 @@ ghost use Rattle.carrying.specs.Spans.{Spans, InSpan};
 ghost use Rattle.carrying.specs.Kids.{KidsKnown};
 ghost use Rattle.carrying.specs.Children.{Sooner, ChildHolds};
 
-use meaning::columns::EdgeColumns;
-
 use crate::spans::SpanColumns;
+use meaning::columns::EdgeColumns;
 
 // The answers kept: whether each row has a child, and up to where it is so. A byte of 1 is a yes, since working memory is fixed.
 #[derive(Drop)]
@@ -61,7 +60,14 @@ fn child_from(len: u32, edges: EdgeColumns, from: u32, to: u32, x: u32, u: u32) 
 
 impl Kids<'_> {
     // Whether row u has a child at x: the answer kept while it holds, and else a new one.
-    pub fn child(&mut self, len: u32, edges: EdgeColumns, spans: SpanColumns, x: u32, u: u32) -> bool
+    pub fn child(
+        &mut self,
+        len: u32,
+        edges: EdgeColumns,
+        spans: SpanColumns,
+        x: u32,
+        u: u32,
+    ) -> bool
         requires { Spans edges.parent.now spans.first.now spans.past.now ×
             (u < length spans.first.now) ×
             (u < length spans.past.now) ×

@@ -17,10 +17,9 @@ mod column; // the two bytes of each row listed
 mod fresh; // a new stamp, and answers thrown away
 
 use ancestry::edge_index::EdgeIndex;
+use kids::Kids;
 use meaning::columns::Tables;
 use overtaking::known::Kept;
-
-use kids::Kids;
 use spans::SpanColumns;
 
 // What is the same for all sites of a call: the tables, their edges by child with the ends of each row's, and where the edges of a

@@ -3,17 +3,17 @@ use mathlib.Core.Path.{◌≡◌, refl, sym, ap, subst, ◌∙◌}
 use mathlib.Core.Bool.{Bool, true, false, not}
 use mathlib.Core.List.{List, [], ◌∷◌, ◌++◌, map}
 use mathlib.Core.Logic.{◌⊎◌, inl, inr}
-use Prim.Native.Nat.{ℕ, zero, suc, ◌*◌, ◌<◌, ◌≤◌, min}
+use Prim.Native.Nat.{ℕ, zero, suc, ◌<◌, ◌≤◌, min}
 use native.Mathlib.Omega.{arith}
 use lib.Dec.{leb}
-use lib.ListN.{length, replicate, take, length-replicate}
+use lib.ListN.{length, replicate, length-replicate}
 use borrow.Author.Tests.{leb-true, leb-false}
 use Rattle.meaning.specs.declared.Refusal.{Refusal}
 use Rattle.meaning.specs.Answer.{Checked}
 use Rattle.std.specs.Prelude.{Ok, Err}
 use Rattle.meaning.specs.Words.{at, each}
 use Rattle.meaning.specs.Rows.{Tables}
-use Rattle.meaning.specs.Answer.{Answer, Stated, done, limits, accepted, refusal_of, checked_of}
+use Rattle.meaning.specs.Answer.{Answer, Stated, done, limits, refusal_of, checked_of}
 use Rattle.meaning.specs.Check.{check_then}
 use Rattle.meaning.specs.Allele.{allele}
 use Rattle.meaning.specs.Panel.{PanelOutcome, panel_of, panel_end, panel_answer, panel, singles, first_refused}
@@ -29,7 +29,7 @@ use Rattle.ancestry.specs.Index.{Ends}
 use Rattle.alleles.specs.Reading.{Readable}
 use Rattle.carrying.proofs.Beginning.{zero_cells}
 use Rattle.carrying.specs.Spans.{Spans}
-use Rattle.carrying.specs.Work.{Work, work_of, Kept, index_by, Prepared}
+use Rattle.carrying.specs.Work.{work_of, Kept, index_by, Prepared}
 use Rattle.blocks.specs.Lists.{readings, AllThere, FirstIs, ListsTold}
 use Rattle.panel.specs.Whole.{SitesNamed, room_then, after_check, end_refused, first_refused-is}
 

@@ -1,11 +1,9 @@
 -- The rows of some fish found, one after another; and what the loops over sites and over fish keep.
-use mathlib.Core.Path.{◌≡◌, refl, sym, ap, subst, ◌∙◌}
-use mathlib.Core.Bool.{Bool, true, false}
-use mathlib.Core.List.{List, [], ◌∷◌}
+use mathlib.Core.Path.{◌≡◌, sym, ap, subst, ◌∙◌}
+use mathlib.Core.List.{List}
 use mathlib.Core.Logic.{◌⊎◌, inl, inr}
-use Prim.Native.Nat.{ℕ, suc, ◌+◌, ◌*◌, ◌<◌, ◌≤◌}
+use Prim.Native.Nat.{ℕ, ◌+◌, ◌*◌, ◌<◌, ◌≤◌}
 use native.Mathlib.Omega.{arith}
-use lib.Dec.{eqb}
 use lib.ListN.{length, set}
 use lib.Seq.{get_or-set_same, get_or-set_other}
 use Rattle.std.specs.Prelude.{Some}
@@ -24,8 +22,8 @@ use Rattle.panel.specs.Whole.{RowsFound}
 -- ---- rows found
 
 -- the row of a known fish is small
-pub row_small : {b u : ℕ} {l : List ℕ} → Some u ≡ place_in b l → length l < 4294967296 → u < 4294967296
-row_small {b} {u} {l} e h = omega (arith, (place_in-some b l u e).1)
+pub row_small : (b u : ℕ) (l : List ℕ) → Some u ≡ place_in b l → length l < 4294967296 → u < 4294967296
+row_small b u l e h = omega (arith, (place_in-some b l u e).1)
 
 module _ (birth fish : List ℕ) (base : ℕ) where
   pub no_row_yet : (rows : List ℕ) → RowsFound birth fish base 0 rows

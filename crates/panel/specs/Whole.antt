@@ -1,14 +1,14 @@
 -- The call after the check of the tables: what it gives and leaves, outcome by outcome.
-use Rattle.std.specs.Prelude.{◌≡◌, Bool, ◌⊎◌, ltb, drop, Ok, Err}
+use Rattle.std.specs.Prelude.{◌≡◌, Bool, ◌⊎◌, ltb, Ok, Err}
 use Rattle.std.proofs.Math.Path.{refl, sym, ap}
-use Rattle.std.proofs.Common.{ap₂, ◌∙◌, inl, inr, zero-mul, mul-zero, lt-ltb, le-ltb}
+use Rattle.std.proofs.Common.{◌∙◌, inl, inr, zero-mul, mul-zero, lt-ltb, le-ltb}
 use Rattle.std.proofs.Math.Bool.{true, false}
-use mathlib.Core.List.{List, [], ◌∷◌, ◌++◌, map}
-use Prim.Native.Nat.{ℕ, zero, suc, ◌+◌, ◌*◌, ◌<◌, ◌≤◌, min}
+use mathlib.Core.List.{List, [], ◌∷◌}
+use Prim.Native.Nat.{ℕ, ◌+◌, ◌*◌, ◌<◌, ◌≤◌, min}
 use native.Mathlib.Omega.{arith}
 use Rattle.std.proofs.Math.ListN.{length}
 use Rattle.std.proofs.lemmas.List.{length-map}
-use Rattle.meaning.specs.Words.{at, each, index_of}
+use Rattle.meaning.specs.Words.{at, index_of}
 use Rattle.meaning.specs.Rows.{Tables}
 use Rattle.meaning.specs.Answer.{Answer, Stated, answer, done, refuse, accepted, room, put, left_by, refusal_of}
 use Rattle.meaning.specs.Panel.{PanelOutcome, panel_of, panel_end, bytes_by, first_refused, state_bytes, flag_bytes, flag}

@@ -10,14 +10,13 @@ ghost use Rattle.blocks.specs.Lists.{AllThere};
 ghost use Rattle.panel.specs.Rows.{state_byte, flag_byte};
 ghost use Rattle.panel.specs.Whole.{SitesNamed};
 
+use crate::portions;
 use carrying::Filled;
 use carrying::kids::Kids;
 use carrying::spans::SpanColumns;
 use meaning::columns::Tables;
 use meaning::{NodeTable, SiteTable};
 use overtaking::known::Kept;
-
-use crate::portions;
 
 // Fills in what is the same for all sites: the ends of each row's edges by child, and where a parent's edges and a site's mutations lie.
 fn prepare(

@@ -13,7 +13,7 @@ ghost use Rattle.panel.specs.Whole.{RowsFound};
 use blocks::block;
 use carrying::kids::Kids;
 use carrying::{Filled, Trail};
-use overtaking::known::Kept;
+use overtaking::known;
 
 // As many fish are told at each site before the next ones are found.
 pub const FISH: usize = 1024;
@@ -41,7 +41,7 @@ fn fill_portion(
     rows: &[u32],
     k: usize,
     trail: Trail,
-    kept: &mut Kept,
+    kept: &mut known::Kept,
     kids: &mut Kids,
     own: &mut [u32],
     told: &mut [u32],
@@ -85,7 +85,7 @@ pub fn fill_fish(
     sites: &[u32],
     fish: &[u32],
     rows: &mut [u32],
-    kept: &mut Kept,
+    kept: &mut known::Kept,
     kids: &mut Kids,
     own: &mut [u32],
     told: &mut [u32],

@@ -1,5 +1,5 @@
 -- `tell_site` meets its contract: answers kept hold from the site on, its mutations are marked with a new stamp, and each row has its bytes.
-use mathlib.Core.Path.{refl, sym, ap, ◌∙◌}
+use mathlib.Core.Path.{ap, ◌∙◌}
 use Rattle.carrying.specs.Spans.{in_span}
 use Rattle.carrying.proofs.Beginning.{parents_hold, children_hold, same_parents, same_children}
 use Rattle.carrying.proofs.AtSite.{column_at, kept_on, ready, naming, still_long}

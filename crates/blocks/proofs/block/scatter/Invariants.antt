@@ -5,4 +5,3 @@ use Rattle.blocks.proofs.block.scatter.Given as goal
 
 abbrev pub invariant-loop-a : goal.invariant-loop-a
 invariant-loop-a l = (l.a ≤ l.k) × Scattered l.sites l.base l.a l.j l.column l.initial.block l.block
-

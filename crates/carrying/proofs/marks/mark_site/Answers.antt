@@ -1,6 +1,5 @@
 -- `mark_site` meets its contract: with the mutation rows that are left, the columns come to what they are to be.
 use mathlib.Core.Path.{◌∙◌}
-use Prim.Native.Nat.{◌-◌}
 use Rattle.carrying.proofs.Marking.{became, begin, skip, put, marked_all}
 use native.Mathlib.Omega.{arith}
 use Rattle.carrying.proofs.marks.mark_site.Goals.{then-mutations-j, else-mutations-j}

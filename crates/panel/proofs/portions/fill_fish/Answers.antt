@@ -1,6 +1,5 @@
 -- `portions::fill_fish` meets its contract: portion after portion, each found and told.
 use mathlib.Core.Path.{refl, ◌∙◌}
-use Prim.Native.Nat.{◌-◌}
 use native.Mathlib.Omega.{arith}
 use lib.ListN.{length}
 use Rattle.blocks.specs.Block.{no_fish_yet}
@@ -29,8 +28,8 @@ overflow_sub-fish c = omega (arith, c.loop-base-test.true)
 pub find_rows-requires : goal.find_rows-requires
 find_rows-requires c = (c.requires.1, omega (arith, c.loop-base-test.true, c.min-k.ensures), omega (arith, c.min-k.ensures, c.requires.4, c.loop-base.invariant.taken.rows_long), omega (arith, c.requires.0.readable.births_long, c.requires.0.readable.few), c.requires.3.fish_known)
 
-pub fill_portion-requires : goal.fill_portion-requires
-fill_portion-requires c = (
+pub fill_portion-trail-requires : goal.fill_portion-trail-requires
+fill_portion-trail-requires c = (
   c.requires.0,
   c.loop-base.invariant.taken.kept,
   c.requires.3,
@@ -51,11 +50,11 @@ loop-base-smaller c = omega (arith, c.loop-base-test.true, c.min-k.ensures)
 
 pub loop-base-preserved : goal.loop-base-preserved
 loop-base-preserved c = record {
-  own_long = c.fill_portion.auto.own ∙ c.loop-base.invariant.own_long;
-  told_long = c.fill_portion.auto.told ∙ c.loop-base.invariant.told_long;
-  state_long = c.fill_portion.auto.state ∙ c.loop-base.invariant.state_long;
+  own_long = c.fill_portion-trail.auto.own ∙ c.loop-base.invariant.own_long;
+  told_long = c.fill_portion-trail.auto.told ∙ c.loop-base.invariant.told_long;
+  state_long = c.fill_portion-trail.auto.state ∙ c.loop-base.invariant.state_long;
   taken = taken_more _ _ _ _ _ _ _ _ _ _ _ _ _ _ _ _ _ _ _ _ _ _ _ _ _ _ (omega (arith, c.loop-base-test.true, c.min-k.ensures)) c.loop-base.invariant.taken
-      c.find_rows.auto.rows c.fill_portion.auto.column c.fill_portion.auto.gaps c.fill_portion.ensures.kept c.fill_portion.ensures.states c.fill_portion.ensures.flags;
+      c.find_rows.auto.rows c.fill_portion-trail.auto.column c.fill_portion-trail.auto.gaps c.fill_portion-trail.ensures.kept c.fill_portion-trail.ensures.states c.fill_portion-trail.ensures.flags;
 }
 
 pub shape_of-rows : goal.shape_of-rows

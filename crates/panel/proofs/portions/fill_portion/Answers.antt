@@ -19,22 +19,22 @@ loop-j-init c = record {
   };
 }
 
-pub tell_site-requires : goal.tell_site-requires
-tell_site-requires c = (c.requires.0, c.loop-j.invariant.telling.kept, c.requires.2.sites_there _ c.loop-j-test.true, c.requires.5, omega (arith, c.requires.6, c.loop-j.invariant.telling.column_long), omega (arith, c.requires.7, c.loop-j.invariant.telling.gaps_long), rows_inside _ _ _ _ _ _ _ _ c.requires.3 c.requires.2 c.requires.0.readable.births_long c.requires.4)
+pub tell_site-reached-requires : goal.tell_site-reached-requires
+tell_site-reached-requires c = (c.requires.0, c.loop-j.invariant.telling.kept, c.requires.2.sites_there _ c.loop-j-test.true, c.requires.5, omega (arith, c.requires.6, c.loop-j.invariant.telling.column_long), omega (arith, c.requires.7, c.loop-j.invariant.telling.gaps_long), rows_inside _ _ _ _ _ _ _ _ c.requires.3 c.requires.2 c.requires.0.readable.births_long c.requires.4)
 
 pub scatter-requires : goal.scatter-requires
-scatter-requires c = (omega (arith, c.requires.6, c.loop-j.invariant.telling.column_long, c.tell_site.auto.states), c.loop-j-test.true, omega (arith, c.requires.8, c.loop-j.invariant.telling.states_done.long))
+scatter-requires c = (omega (arith, c.requires.6, c.loop-j.invariant.telling.column_long, c.tell_site-reached.auto.states), c.loop-j-test.true, omega (arith, c.requires.8, c.loop-j.invariant.telling.states_done.long))
 
 pub scatter-requires-in-loop-j : goal.scatter-requires-in-loop-j
-scatter-requires-in-loop-j c = (omega (arith, c.requires.7, c.loop-j.invariant.telling.gaps_long, c.tell_site.auto.flags), c.loop-j-test.true, omega (arith, c.requires.9, c.loop-j.invariant.telling.flags_done.long))
+scatter-requires-in-loop-j c = (omega (arith, c.requires.7, c.loop-j.invariant.telling.gaps_long, c.tell_site-reached.auto.flags), c.loop-j-test.true, omega (arith, c.requires.9, c.loop-j.invariant.telling.flags_done.long))
 
 pub loop-j-preserved : goal.loop-j-preserved
 loop-j-preserved c = record {
-  own_long = c.tell_site.auto.own ∙ c.loop-j.invariant.own_long;
-  told_long = c.tell_site.auto.told ∙ c.loop-j.invariant.told_long;
-  state_long = c.tell_site.auto.state ∙ c.loop-j.invariant.state_long;
+  own_long = c.tell_site-reached.auto.own ∙ c.loop-j.invariant.own_long;
+  told_long = c.tell_site-reached.auto.told ∙ c.loop-j.invariant.told_long;
+  state_long = c.tell_site-reached.auto.state ∙ c.loop-j.invariant.state_long;
   telling = told_more _ _ _ _ _ _ c.requires.3 _ _ _ _ _ _ _ _ _ _ _ _ _ _ _ _ _ _ _ c.loop-j-test.true c.loop-j.invariant.telling
-      c.tell_site.auto.states c.tell_site.auto.flags c.tell_site.ensures.column c.tell_site.ensures.kept c.scatter.ensures c.scatter-in-loop-j.ensures;
+      c.tell_site-reached.auto.states c.tell_site-reached.auto.flags c.tell_site-reached.ensures.column c.tell_site-reached.ensures.kept c.scatter.ensures c.scatter-in-loop-j.ensures;
 }
 
 pub shape_of-own : goal.shape_of-own

@@ -22,7 +22,7 @@ pub unwrap-requires : goal.unwrap-requires
 unwrap-requires c = place_known _ _ _ c.row_of.ensures ∙ c.requires.4 _ (omega (arith, c.loop-a-test.true, c.requires.1))
 
 pub overflow_cast-rows : goal.overflow_cast-rows
-overflow_cast-rows c = row_small (sym c.unwrap.ensures ∙ c.row_of.ensures) c.requires.3
+overflow_cast-rows c = omega (arith, row_small _ _ _ (sym c.unwrap.ensures ∙ c.row_of.ensures) c.requires.3)
 
 pub bounds-rows-a : goal.bounds-rows-a
 bounds-rows-a c = omega (arith, c.loop-a-test.true, c.requires.2, c.loop-a.invariant.long)
