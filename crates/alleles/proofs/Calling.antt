@@ -1,34 +1,19 @@
 -- What the allele call answers, from the row of the birth number.
 use mathlib.Core.Path.{◌≡◌, sym, ap, ◌∙◌}
-use mathlib.Core.Bool.{true, false}
-use mathlib.Core.List.{List}
-use Prim.Native.Nat.{ℕ, ◌<◌, ◌≤◌}
-use native.Mathlib.Omega.{arith}
+use Prim.Native.Nat.{ℕ, ◌<◌}
 use lib.ListN.{length}
-use borrow.Author.Tests.{lt-ltb, le-ltb}
-use Rattle.meaning.specs.Words.{at, mem, index_of}
+use Rattle.std.specs.Prelude.{Some, None}
+use Rattle.meaning.specs.Words.{at, place_in}
 use Rattle.meaning.specs.Rows.{Tables}
 use Rattle.meaning.specs.Answer.{Stated, answer, done, unread}
-use Rattle.laws.specs.Members.{index_at}
-use Rattle.order.specs.Ranks.{index_mem}
-use Rattle.alleles.specs.Reading.{Readable}
+use Rattle.order.specs.Ranks.{place_in-some, place_in-none}
 use Rattle.alleles.specs.Call.{read_of, read_allele, no_birth, reads}
 
-module _ (L : ℕ) (T : Tables) (b u : ℕ) (e : u ≡ index_of b T.nodes.birth) where
-  -- the row exists
-  pub row_exists : (by : List ℕ) → Readable L T by → u < length T.nodes.birth → u < length T.nodes.time
-  row_exists by ok h = omega (arith, ok.births_long)
+module _ (L : ℕ) (T : Tables) (b : ℕ) where
+  pub answer_read : (u : ℕ) → Some u ≡ place_in b T.nodes.birth → (i : ℕ) (s : Stated) → i < length T.sites.position → s ≡ read_of L T i (at T.nodes.birth u) done → s ≡ read_allele L T i b
+  answer_read u e i s h f =
+      let w : _ = place_in-some b T.nodes.birth u e in
+      f ∙ ap (λ (b : ℕ). read_of L T i b done) w.2 ∙ sym (reads L T i b h w.3)
 
-  named : u < length T.nodes.birth → mem b T.nodes.birth ≡ true
-  named h = sym (index_mem b T.nodes.birth) ∙ lt-ltb (index_of b T.nodes.birth) (length T.nodes.birth) (omega arith)
-
-  unnamed : length T.nodes.birth ≤ u → mem b T.nodes.birth ≡ false
-  unnamed h = sym (index_mem b T.nodes.birth) ∙ le-ltb (index_of b T.nodes.birth) (length T.nodes.birth) (omega arith)
-
-  pub answer_read : (i : ℕ) (s : Stated) → i < length T.sites.position → u < length T.nodes.birth → s ≡ read_of L T i (at T.nodes.birth u) done → s ≡ read_allele L T i b
-  answer_read i s h l f =
-      let q : at T.nodes.birth u ≡ b = ap (at T.nodes.birth) e ∙ index_at b T.nodes.birth (named l) in
-      f ∙ ap (λ (b : ℕ). read_of L T i b done) q ∙ sym (reads L T i b h (named l))
-
-  pub answer_no_birth : (i : ℕ) → i < length T.sites.position → length T.nodes.birth ≤ u → ◌≡◌ {A = Stated} (unread (answer 42 0)) (read_allele L T i b)
-  answer_no_birth i h l = sym (no_birth L T i b h (unnamed l))
+  pub answer_no_birth : None ≡ place_in b T.nodes.birth → (i : ℕ) → i < length T.sites.position → ◌≡◌ {A = Stated} (unread (answer 42 0)) (read_allele L T i b)
+  answer_no_birth e i h = sym (no_birth L T i b h (place_in-none b T.nodes.birth e).1)

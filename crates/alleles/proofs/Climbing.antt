@@ -20,11 +20,13 @@ use Rattle.ancestry.specs.Older.{older_falls}
 use Rattle.missing.specs.Marks.{marked}
 use Rattle.ancestry.specs.Rises.{parent_rises}
 use Rattle.ancestry.specs.Stretch.{another, until, near_until, stretch_at}
+use Rattle.std.specs.declared.ops.ControlFlow.{ControlFlow}
+use Rattle.std.specs.declared.ops.ControlFlow.TheVariants.{Break, Continue}
+use Rattle.std.specs.Prelude.{Some, None}
+use Rattle.std.specs.Prelude.{Option as Found}
 use Rattle.alleles.specs.declared.Carrier.{Carrier}
-use Rattle.alleles.specs.declared.climb.Stop.{Stop}
-use Rattle.alleles.specs.declared.climb.Stop.TheVariants.{Done, From}
 use Rattle.missing.specs.Climbable.{Climbable}
-use Rattle.alleles.specs.Reading.{CarrierAt, carried_by}
+use Rattle.alleles.specs.Reading.{row_in, CarrierAt, carried_by}
 use Rattle.alleles.specs.Stops.{Reached, Onward, Led}
 use Rattle.alleles.specs.ByRows.{carried_none, carried_some}
 
@@ -76,14 +78,14 @@ module _ (E : EdgeColumns) (L x : ℕ) (K : ℕ → Bool) where
 
 -- ---- one row of the way
 
-module _ {time : List ℕ} {E : EdgeColumns} {L : ℕ} {by ends has : List ℕ} {u : ℕ} (ok : Climbable time E L by ends has u) (x least : ℕ) (in_l : least ≤ L) where
+module _ {time : List ℕ} {E : EdgeColumns} {L : ℕ} {ends has : List ℕ} {u : ℕ} (ok : Climbable time E ends has u) (x least : ℕ) (in_l : least ≤ L) where
   -- the way ends at a marked row
-  pub climb_here : at has u ≡ 1 → Reached time E L x has u least (record { row = u; end = least })
-  unfolding marked code
+  pub climb_here : at has u ≡ 1 → Reached time E L x has u least (record { row = Some u; end = least })
+  unfolding marked row_in
   climb_here e =
       let m : marked has u ≡ true = eq-eqb (at has u) 1 e in
       record {
-        found = λ k l. ap code (sym (near_here (parent_row E x) (marked has) k u m));
+        found = λ k l. ap row_in (sym (near_here (parent_row E x) (marked has) k u m));
         until = λ k l. omega (arith, until_here E L x (marked has) k u m);
       }
 
@@ -99,12 +101,12 @@ module _ {time : List ℕ} {E : EdgeColumns} {L : ℕ} {by ends has : List ℕ} 
     least_is = e ∙ ap (λ (s : Stretch). min least s.end) q
 
     -- and at a row that has no parent
-    pub climb_top : s.parent ≡ no_row → Reached time E L x has u least (record { row = s.parent; end = m })
-    unfolding code
+    pub climb_top : s.parent ≡ no_row → Reached time E L x has u least (record { row = None; end = m })
+    unfolding code row_in
     climb_top z = go (parent_row E x u) refl
       where
-        go : (o : Option ℕ) → parent_row E x u ≡ o → Reached time E L x has u least (record { row = s.parent; end = m })
-        go none h = record { found = λ k l. z ∙ ap code (sym (near_top (parent_row E x) (marked has) k u unmarked h)); until = top h }
+        go : (o : Option ℕ) → parent_row E x u ≡ o → Reached time E L x has u least (record { row = None; end = m })
+        go none h = record { found = λ k l. ap row_in (sym (near_top (parent_row E x) (marked has) k u unmarked h)); until = top h }
           where
             top : parent_row E x u ≡ none → (k : ℕ) → older time u < k → m ≡ min least (near_until E L x (marked has) k u)
             top h zero l = absurd (omega arith)
@@ -130,49 +132,49 @@ module _ {time : List ℕ} {E : EdgeColumns} {L : ℕ} {by ends has : List ℕ} 
           fewer : older time s.parent < older time u
           fewer = older_falls time u s.parent rises.1 rises.2
 
-          found : (r : Carrier) → Reached time E L x has s.parent m r → (k : ℕ) → older time u < k → r.row ≡ code (near (parent_row E x) (marked has) k u)
+          found : (r : Carrier) → Reached time E L x has s.parent m r → (k : ℕ) → older time u < k → r.row ≡ row_in (near (parent_row E x) (marked has) k u)
           found r h zero l = absurd (omega arith)
-          found r h (suc k) l = h.found k (omega (arith, fewer)) ∙ ap code (sym (near_step (parent_row E x) (marked has) k u s.parent unmarked parent))
+          found r h (suc k) l = h.found k (omega (arith, fewer)) ∙ ap row_in (sym (near_step (parent_row E x) (marked has) k u s.parent unmarked parent))
 
           ends_at : (r : Carrier) → Reached time E L x has s.parent m r → (k : ℕ) → older time u < k → r.end ≡ min least (near_until E L x (marked has) k u)
           ends_at r h zero l = absurd (omega arith)
           ends_at r h (suc k) l = omega (arith, h.until k (omega (arith, fewer)), least_is, until_step E L x (marked has) k u unmarked s.parent parent)
 
-      pub climb_next : Climbable time E L by ends has s.parent × (m ≤ L)
-      climb_next = (record { indexed = ok.indexed; rising = ok.rising; few = ok.few; ends_long = ok.ends_long; long = ok.long; row = rises.1 }, climb_from.inside)
+      pub climb_next : Climbable time E ends has s.parent × (m ≤ L)
+      climb_next = (record { rising = ok.rising; few = ok.few; ends_long = ok.ends_long; long = ok.long; row = rises.1 }, climb_from.inside)
 
       -- what the climb from there tells is told from u
-      pub climb_on : (r : Stop) → Led time E L x has s.parent m r → Led time E L x has u least r
-      climb_on (Done r) h = climb_from.reached r h
-      climb_on (From p l) h = record { row = h.row; fewer = omega (arith, h.fewer, climb_from.fewer); inside = h.inside; reached = λ r g. climb_from.reached r (h.reached r g) }
+      pub climb_on : (r : ControlFlow Carrier (ℕ × ℕ)) → Led time E L x has s.parent m r → Led time E L x has u least r
+      climb_on (Break r) h = climb_from.reached r h
+      climb_on (Continue (p, l)) h = record { row = h.row; fewer = omega (arith, h.fewer, climb_from.fewer); inside = h.inside; reached = λ r g. climb_from.reached r (h.reached r g) }
 
 -- ---- the loop over climbs
 
 -- a climb from u has come to v, with the least end met
-pub record Underway (time : List ℕ) (E : EdgeColumns) (L : ℕ) (by ends has : List ℕ) (x u v least : ℕ) : Type 0 where
-  pub climb : Climbable time E L by ends has v
+pub record Underway (time : List ℕ) (E : EdgeColumns) (L : ℕ) (ends has : List ℕ) (x u v least : ℕ) : Type 0 where
+  pub climb : Climbable time E ends has v
   pub inside : least ≤ L
   pub reached : (r : Carrier) → Reached time E L x has v least r → CarrierAt time E L x has u r
 
-pub begin : {time : List ℕ} {E : EdgeColumns} {L : ℕ} {by ends has : List ℕ} {u : ℕ} → Climbable time E L by ends has u → (x : ℕ) → Underway time E L by ends has x u u L
-begin {time} {E} {L} {by} {ends} {has} {u} ok x = record {
+pub begin : {time : List ℕ} {E : EdgeColumns} {L : ℕ} {ends has : List ℕ} {u : ℕ} → Climbable time E ends has u → (x : ℕ) → Underway time E L ends has x u u L
+begin {time} {E} {L} {ends} {has} {u} ok x = record {
   climb = ok;
   inside = omega arith;
   reached = λ r h. record { found = h.found; until = λ k l. omega (arith, h.until k l, until_inside E L x (marked has) k u) };
 }
 
-module _ {time : List ℕ} {E : EdgeColumns} {L : ℕ} {by ends has : List ℕ} {x u v least : ℕ} (w : Underway time E L by ends has x u v least) (s : Stop) (h : Led time E L x has v least s) where
-  pub told_done : {r : Carrier} → s ≡ Done r → CarrierAt time E L x has u r
-  told_done {r} e = w.reached r (subst (λ (s : Stop). Led time E L x has v least s) e h)
+module _ {time : List ℕ} {E : EdgeColumns} {L : ℕ} {ends has : List ℕ} {x u v least : ℕ} (w : Underway time E L ends has x u v least) (s : ControlFlow Carrier (ℕ × ℕ)) (h : Led time E L x has v least s) where
+  pub told_done : {r : Carrier} → s ≡ Break r → CarrierAt time E L x has u r
+  told_done {r} e = w.reached r (subst (λ (s : ControlFlow Carrier (ℕ × ℕ)). Led time E L x has v least s) e h)
 
-  pub told_from : {p m : ℕ} → s ≡ From p m → Onward time E L x has v least p m
-  told_from e = subst (λ (s : Stop). Led time E L x has v least s) e h
+  pub told_from : {p m : ℕ} → s ≡ Continue (p, m) → Onward time E L x has v least p m
+  told_from e = subst (λ (s : ControlFlow Carrier (ℕ × ℕ)). Led time E L x has v least s) e h
 
-  pub go_on : {p m : ℕ} → s ≡ From p m → Underway time E L by ends has x u p m
+  pub go_on : {p m : ℕ} → s ≡ Continue (p, m) → Underway time E L ends has x u p m
   go_on e =
       let o : _ = told_from e in
       record {
-        climb = record { indexed = w.climb.indexed; rising = w.climb.rising; few = w.climb.few; ends_long = w.climb.ends_long; long = w.climb.long; row = o.row };
+        climb = record { rising = w.climb.rising; few = w.climb.few; ends_long = w.climb.ends_long; long = w.climb.long; row = o.row };
         inside = o.inside;
         reached = λ r g. w.reached r (o.reached r g);
       }
@@ -195,35 +197,38 @@ older_few time u = omega (arith, count_few (λ v. ltb (at time u) (at time v)) (
 
 -- ---- what was found on the way
 
-module _ {time : List ℕ} {E : EdgeColumns} {L : ℕ} {by ends has : List ℕ} {u : ℕ} (ok : Climbable time E L by ends has u) (x : ℕ) (r : Carrier) (h : CarrierAt time E L x has u r) where
-  cell_is : r.row ≡ code (near (parent_row E x) (marked has) Ages u)
-  cell_is = h.found Ages (omega (arith, older_few time u, ok.few))
+some_same : {a b : ℕ} → ◌≡◌ {A = Found ℕ} (Some a) (Some b) → a ≡ b
+some_same q = cc
 
-  inside : (w : ℕ) → near (parent_row E x) (marked has) Ages u ≡ some w → w < length time
-  inside w e = (near_inside (length time) (parent_row E x) (λ v p l q. (parent_rises time E ok.rising x v p q).1) (marked has) Ages u w ok.row e).0
+some_not : {a : ℕ} → ◌≡◌ {A = Found ℕ} None (Some a) → ⊥
+some_not q = let z : ◌≡◌ {A = ℕ} 0 1 = cc in omega arith
 
-  none_found : r.row ≡ no_row → near (parent_row E x) (marked has) Ages u ≡ none
-  unfolding code
-  none_found z = go (near (parent_row E x) (marked has) Ages u) refl
+module _ {time : List ℕ} {E : EdgeColumns} {ends has : List ℕ} {u : ℕ} (ok : Climbable time E ends has u) (L x : ℕ) (r : Carrier) (h : CarrierAt time E L x has u r) where
+  row_is : r.row ≡ row_in (near (parent_row E x) (marked has) Ages u)
+  row_is = h.found Ages (omega (arith, older_few time u, ok.few))
+
+  some_found : {w : ℕ} → r.row ≡ Some w → near (parent_row E x) (marked has) Ages u ≡ some w
+  unfolding row_in
+  some_found {w} e = go (near (parent_row E x) (marked has) Ages u) refl
+    where
+      go : (o : Option ℕ) → near (parent_row E x) (marked has) Ages u ≡ o → o ≡ some w
+      go none q = absurd (some_not (sym (row_is ∙ ap row_in q) ∙ e))
+      go (some v) q = ap some (some_same (sym (row_is ∙ ap row_in q) ∙ e))
+
+  none_found : r.row ≡ None → near (parent_row E x) (marked has) Ages u ≡ none
+  unfolding row_in
+  none_found e = go (near (parent_row E x) (marked has) Ages u) refl
     where
       go : (o : Option ℕ) → near (parent_row E x) (marked has) Ages u ≡ o → o ≡ none
-      go none e = refl
-      go (some w) e = absurd (omega (arith, inside w e, ok.few, z, cell_is, ap code e))
-
-  some_found : (r.row ≡ no_row → ⊥) → near (parent_row E x) (marked has) Ages u ≡ some r.row
-  unfolding code
-  some_found z = go (near (parent_row E x) (marked has) Ages u) refl
-    where
-      go : (o : Option ℕ) → near (parent_row E x) (marked has) Ages u ≡ o → o ≡ some r.row
-      go none e = absurd (z (cell_is ∙ ap code e))
-      go (some w) e = ap some (sym (cell_is ∙ ap code e))
+      go none q = refl
+      go (some v) q = absurd (some_not (sym e ∙ row_is ∙ ap row_in q))
 
   -- a row that was found exists
-  pub found_row : (r.row ≡ no_row → ⊥) → r.row < length time
-  found_row z = inside r.row (some_found z)
+  pub found_row : {w : ℕ} → r.row ≡ Some w → w < length time
+  found_row {w} e = (near_inside (length time) (parent_row E x) (λ v p l q. (parent_rises time E ok.rising x v p q).1) (marked has) Ages u w ok.row (some_found e)).0
 
-  pub found_state : (state : List ℕ) (other : ℕ) → (r.row ≡ no_row → ⊥) → at state r.row ≡ carried_by E x has state other u
-  found_state state other z = sym (carried_some E x has state other u r.row (some_found z))
+  pub found_state : (state : List ℕ) (other : ℕ) {w : ℕ} → r.row ≡ Some w → at state w ≡ carried_by E x has state other u
+  found_state state other {w} e = sym (carried_some E x has state other u w (some_found e))
 
-  pub found_nothing : (state : List ℕ) (other : ℕ) → r.row ≡ no_row → other ≡ carried_by E x has state other u
-  found_nothing state other z = sym (carried_none E x has state other u (none_found z))
+  pub found_nothing : (state : List ℕ) (other : ℕ) → r.row ≡ None → other ≡ carried_by E x has state other u
+  found_nothing state other e = sym (carried_none E x has state other u (none_found e))

@@ -1,5 +1,5 @@
 -- The whole allele call: the check of the tables, and then 41, 42 or what is read.
-use mathlib.Core.Path.{◌≡◌, refl, sym, ap, ap₂, ◌∙◌}
+use mathlib.Core.Path.{◌≡◌, refl, sym, ap, ap₂, subst, ◌∙◌}
 use mathlib.Core.List.{List}
 use mathlib.Core.Option.{Option, none, some}
 use Prim.Native.Nat.{ℕ, ◌≤◌}
@@ -14,11 +14,12 @@ use Rattle.meaning.specs.Answer.{Answer, Stated, done, limits, refusal_of, check
 use Rattle.meaning.specs.Check.{check_then}
 use Rattle.meaning.specs.Allele.{carries, allele_at, missing_at, stated, allele_answer, allele}
 use Rattle.accepted.specs.Endings.{allele_refused}
-use Rattle.checker.specs.Found.{TablesSound, Ordered}
+use Rattle.checker.specs.Found.{Shaped, TablesSound, Ordered}
 use Rattle.checker.specs.Aged.{aged}
 use Rattle.checker.proofs.After.{Hands, hands, tables_after, refused, stops, goes_on, was_sound}
 use Rattle.checker.proofs.Rows.{edge_whole, rising, lined, apart}
 use Rattle.checker.proofs.Sound.{tables_sound}
+use Rattle.order.specs.Ranks.{Ranked}
 use Rattle.rules.specs.ByChild.{ByChild}
 use Rattle.alleles.specs.Reading.{Readable}
 use Rattle.alleles.specs.ByRows.{allele_none, allele_some}
@@ -68,11 +69,25 @@ module _ (L : ℕ) (T : Tables) (i b : ℕ) where
   pub read_aged : read_allele L (aged T) i b ≡ read_allele L T i b
   read_aged = by_answer L (aged T) i b (named T i b) named_aged ∙ ap₂ (stated (named T i b)) missing_aged allele_aged ∙ sym (by_answer L T i b (named T i b) refl)
 
+-- ---- tables that are equal are read alike
+
+pub still_readable : {L : ℕ} {T T' : Tables} {by : List ℕ} → T' ≡ T → Readable L T by → Readable L T' by
+still_readable {L} {by = by} e r = subst (λ (T : Tables). Readable L T by) (sym e) r
+
+pub still_ranked : {T T' : Tables} {by : List ℕ} → T' ≡ T → Ranked T.nodes.birth by → Ranked T'.nodes.birth by
+still_ranked {by = by} e r = subst (λ (T : Tables). Ranked T.nodes.birth by) (sym e) r
+
+pub still_read : (L i b : ℕ) {T T' : Tables} {s : Stated} → T' ≡ T → s ≡ read_allele L T' i b → s ≡ read_allele L T i b
+still_read L i b e q = q ∙ ap (λ (T : Tables). read_allele L T i b) e
+
 -- ---- the call
 
 module _ (L : ℕ) (T : Tables) (c : Checked) (e : checked_of c ≡ check_then limits L T done) where
   hand : Hands (check_then limits L T)
   hand = hands (check_then limits L T) (tables_after limits L T)
+
+  pub sound_shaped : c ≡ Ok tt → Shaped T
+  sound_shaped q = (tables_sound limits L T done (was_sound (check_then limits L T) hand c e q)).0.shaped
 
   module _ (lent births : List ℕ) (o : Ordered c T.nodes.birth T.edges (take (length T.edges.left) lent) (take (length T.nodes.birth) births)) (q : c ≡ Ok tt) where
     pub sound_readable : Readable L (aged T) (take (length T.edges.left) lent)

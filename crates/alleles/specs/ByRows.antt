@@ -17,7 +17,6 @@ use Rattle.bridge.specs.Parents.{parent_row}
 use Rattle.bridge.specs.Rename.{map_option, Renamed, near_names, near_inside}
 use Rattle.bridge.specs.Columns.{Within, parent_names}
 use Rattle.bridge.specs.Sites.{pos_at, state_at, carries_names, last_names}
-use Rattle.ancestry.specs.Index.{Ends}
 use Rattle.ancestry.specs.Rises.{parent_rises}
 use Rattle.missing.specs.Marks.{marked, Naming, mark, marks_of, states_of}
 use Rattle.missing.specs.Climbable.{Climbable}
@@ -97,14 +96,13 @@ module _ (L : ℕ) (T : Tables) (by : List ℕ) (ok : Readable L T by) (i m : �
     same_marks : (v : ℕ) → v < n → carries (muts_of (at T.nodes.birth) T.muts) i (at T.nodes.birth v) ≡ marked has v
     same_marks v l = carries_names T.nodes.birth ok.once T.muts node_row i v l ∙ sym (marks_at-is T.muts i m v (omega (arith, ok.births_long))) ∙ sym (ap (λ h. marked h v) marks)
 
-    -- from each row the way up can be gone, with ends that are filled
-    pub climbs : (ends : List ℕ) → length ends ≡ m → Ends T.edges.child by ends → (u : ℕ) → u < length T.nodes.time → Climbable T.nodes.time T.edges L by ends has u × (length T.nodes.time ≤ length state)
+    -- from each row the way up can be gone
+    pub climbs : (ends : List ℕ) → length ends ≡ m → (u : ℕ) → u < length T.nodes.time → Climbable T.nodes.time T.edges ends has u × (length T.nodes.time ≤ length state)
     unfolding marks_of states_of
-    climbs ends long filled u row =
+    climbs ends long u row =
         let h : length has ≡ m = ap length marks ∙ length_rows (λ v. mark (carries (muts_of (λ r. r) T.muts) i v) 0) m in
         let s : length state ≡ m = ap length states ∙ length_rows (λ v. last_state i v (muts_of (λ r. r) T.muts) (at T.sites.ancestral i)) m in (
           record {
-            indexed = record { even = ok.rising.even; whole = ok.whole; order = ok.order; ends = filled };
             rising = ok.rising;
             few = omega (arith, ok.few);
             ends_long = omega arith;

@@ -1,22 +1,28 @@
 -- The first marked row at or above a node row, how far that holds, and the state that the node carries by it.
-use Rattle.std.specs.Prelude.{◌≡◌, List, ℕ, ◌<◌, ◌≤◌, length}
+use Rattle.std.specs.Prelude.{◌≡◌, Option, Some, None, List, ℕ, ◌<◌, ◌≤◌, length}
 use Rattle.std.proofs.Math.Option.{none, some}
+use Rattle.std.proofs.Math.Option.{Option as Near}
 use Rattle.meaning.specs.Words.{at}
 use Rattle.meaning.specs.Rows.{EdgeColumns, Tables}
 use Rattle.meaning.specs.Forest.{Ages, near}
 use Rattle.meaning.specs.Answer.{limits}
-use Rattle.bridge.specs.Parents.{no_row, code, parent_row}
+use Rattle.bridge.specs.Parents.{parent_row}
 use Rattle.bridge.specs.Columns.{Apart}
 use Rattle.rules.specs.ByChild.{ByChild}
 use Rattle.ancestry.specs.Column.{older, Rising}
-use Rattle.ancestry.specs.Index.{Whole, Indexed}
+use Rattle.ancestry.specs.Index.{Whole}
 use Rattle.ancestry.specs.Stretch.{near_until}
 use Rattle.alleles.specs.declared.Carrier.{Carrier}
 use Rattle.missing.specs.Marks.{marked, Naming}
 
--- r is the first marked row at or above u at x, as a cell, and how far that way holds: any number of steps that is enough tells it
+-- the row that a way comes to, as the code answers it
+unfoldable pub row_in : Near ℕ → Option ℕ
+row_in none = None
+row_in (some w) = Some w
+
+-- r is the first marked row at or above u at x, where there is one, and how far that way holds: any number of steps that is enough tells it
 pub record CarrierAt (time : List ℕ) (E : EdgeColumns) (L x : ℕ) (has : List ℕ) (u : ℕ) (r : Carrier) : Type 0 where
-  pub found : (k : ℕ) → older time u < k → r.row ≡ code (near (parent_row E x) (marked has) k u)
+  pub found : (k : ℕ) → older time u < k → r.row ≡ row_in (near (parent_row E x) (marked has) k u)
   pub until : (k : ℕ) → older time u < k → r.end ≡ near_until E L x (marked has) k u
 
 -- the state of the first marked row at or above u at x, or the other where there is none

@@ -1,43 +1,36 @@
--- Whether some row passes, as a loop finds it, and what the two lists tell by it.
-use mathlib.Core.Path.{◌≡◌, refl, sym, ap, ◌∙◌}
+-- Whether some row passes, as a search finds it, and what the two lists tell by it.
+use mathlib.Core.Path.{◌≡◌, refl, sym}
 use mathlib.Core.Bool.{Bool, true, false, not}
 use mathlib.Core.List.{List}
-use Prim.Native.Nat.{ℕ, ◌+◌, ◌<◌, ◌≤◌}
-use native.Mathlib.Numerals.{add-one}
+use Prim.Native.Nat.{ℕ, ◌<◌}
 use native.Mathlib.Omega.{arith}
 use lib.Dec.{leb}
 use lib.ListN.{length}
-use borrow.Author.Tests.{le-leb, lt-leb, leb-true, leb-false}
+use borrow.Author.Tests.{leb-true, leb-false}
+use Rattle.std.specs.Bool.{MatchBool}
+use Rattle.std.specs.List.{HoldsAt, AllWithin}
 use Rattle.meaning.specs.Words.{at, mem, any_below}
-use Rattle.laws.specs.Bools.{clash, truth, not_no, not_of}
-use Rattle.laws.specs.Counting.{below_none, below_miss, below_of, of_below}
+use Rattle.laws.specs.Bools.{clash, not_no, not_of}
+use Rattle.laws.specs.Counting.{below_of, of_below}
 use Rattle.blocks.specs.Lists.{AllThere, FirstIs, at_later_site, at_later_fish}
 use Rattle.meaning.specs.declared.Refusal.TheVariants.{NoSite, NoBirth}
 
-module _ (f : ℕ → Bool) where
-  -- none of the first e rows passes
-  abbrev pub NoneYet : ℕ → Type 0
-  NoneYet e = any_below f e ≡ false
+-- no row below n passes
+none_of : (f : ℕ → Bool) (n : ℕ) → any_below f n ≡ false → (e : ℕ) → e < n → f e ≡ false
+none_of f n h e l = go (f e) refl
+  where
+    go : (t : Bool) → f e ≡ t → f e ≡ false
+    go true q = absurd (clash (of_below f n e l q) h)
+    go false q = q
 
-  pub none_at_first : NoneYet 0
-  none_at_first = below_none f
-
-  pub none_still : (e : ℕ) → f e ≡ false → NoneYet e → NoneYet (e + 1)
-  none_still e q h = rw (add-one e) (below_miss f e q ∙ h)
-
-  pub one_found : (n e : ℕ) → e < n → f e ≡ true → true ≡ any_below f n
-  one_found n e l q = sym (of_below f n e l q)
-
-  pub none_found : (n e : ℕ) → e ≤ n → n ≤ e → NoneYet e → false ≡ any_below f n
-  none_found n e a b h = let q : n ≡ e = omega arith in sym (ap (any_below f) q ∙ h)
-
-  -- and what that says of each row
-  none_of : (n : ℕ) → any_below f n ≡ false → (e : ℕ) → e < n → f e ≡ false
-  none_of n h e l = go (f e) refl
-    where
-      go : (t : Bool) → f e ≡ t → f e ≡ false
-      go true q = absurd (clash (of_below f n e l q) h)
-      go false q = q
+-- what a search through a list answers
+pub any_told : (f : ℕ → Bool) (xs : List ℕ) (r : Bool) → MatchBool r ((k : ℕ) × (k < length xs) × HoldsAt (λ x. f x ≡ true) xs k) (AllWithin (λ x. f x ≡ false) xs 0 (length xs)) → r ≡ any_below (λ j. f (at xs j)) (length xs)
+any_told f xs true w = sym (of_below (λ j. f (at xs j)) (length xs) w.0 w.1 (w.2 0))
+any_told f xs false h = go (any_below (λ j. f (at xs j)) (length xs)) refl
+  where
+    go : (t : Bool) → any_below (λ j. f (at xs j)) (length xs) ≡ t → false ≡ any_below (λ j. f (at xs j)) (length xs)
+    go true q = let w : (j : ℕ) × (j < length xs) × (f (at xs j) ≡ true) = below_of (λ j. f (at xs j)) (length xs) q in absurd (clash w.2 (h w.0 0 (omega arith) w.1))
+    go false q = sym q
 
 -- ---- the two lists
 

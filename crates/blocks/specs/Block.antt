@@ -1,7 +1,7 @@
 -- A block of rows of s cells each: cell b of row a stands at a * s + b.
 use Rattle.std.specs.Prelude.{◌≡◌, refl, ◌⊎◌}
 use Rattle.std.proofs.Math.Path.{sym, ap}
-use Rattle.std.proofs.Common.{ap₂, ◌∙◌, inl, inr, ⊎_elim, mul-le-mul_right, arith, get_or-drop}
+use Rattle.std.proofs.Common.{◌∙◌, inl, inr, mul-le-mul_right, arith, get_or-drop}
 use mathlib.Core.List.{List, [], ◌∷◌, ◌++◌, map}
 use Prim.Native.Nat.{ℕ, zero, suc, ◌+◌, ◌*◌, ◌-◌, ◌<◌, ◌≤◌}
 use Rattle.std.proofs.Math.Nat.{zero-mul, suc-mul}

@@ -1,19 +1,19 @@
 -- The refusals of the single calls, 41 and 42, in block order: which of them is the first, told from the two lists.
-use Rattle.std.specs.Prelude.{◌≡◌, Bool, not, ◌⊎◌, ℕ, zero, suc, ◌+◌, ◌<◌, ◌≤◌, leb, length}
+use Rattle.std.specs.Prelude.{◌≡◌, Bool, ℕ, zero, suc, ◌<◌, ◌≤◌, leb, length}
 use Rattle.std.proofs.Math.Path.{refl, ap}
-use Rattle.std.proofs.Common.{sym, ◌∙◌, inl, inr, ⊎_elim, arith, leb-true, leb-false}
+use Rattle.std.proofs.Common.{sym, ◌∙◌, arith, leb-true, leb-false}
 use Rattle.std.proofs.Math.Bool.{true, false}
 use mathlib.Core.List.{List, [], ◌∷◌, ◌++◌, map}
 use Rattle.meaning.specs.Words.{at, mem, each}
-use Rattle.meaning.specs.Rows.{Tables, record_of}
+use Rattle.meaning.specs.Rows.{Tables}
 use Rattle.meaning.specs.Answer.{Answer, Stated, answer, done, accepted, refusal_of}
-use Rattle.meaning.specs.Allele.{stated, missing_at, allele_at}
+use Rattle.meaning.specs.Allele.{stated}
 use Rattle.meaning.specs.Panel.{first_refused}
 use Rattle.meaning.specs.declared.Refusal.{Refusal}
 use Rattle.meaning.specs.declared.Refusal.TheVariants.{NoSite, NoBirth}
 use Rattle.meaning.specs.Answer.{Checked}
 use Rattle.std.specs.Prelude.{Ok, Err}
-use Rattle.alleles.specs.Call.{read_of, read_allele, no_site, no_birth, reads}
+use Rattle.alleles.specs.Call.{read_allele, no_site, no_birth, reads}
 
 -- what the single calls answer, in block order, of tables that the check does not refuse
 unfoldable pub readings : ℕ → Tables → List ℕ → List ℕ → List Stated
@@ -31,7 +31,7 @@ pub record FirstIs (most : ℕ) (birth sites fish : List ℕ) (x : Refusal) : Ty
 
 -- what is told of two lists that are not empty
 abbrev pub ListsTold : ℕ → List ℕ → List ℕ → List ℕ → Checked → Type 0
-ListsTold most birth sites fish Sound = AllThere most birth sites fish
+ListsTold most birth sites fish (Ok _) = AllThere most birth sites fish
 ListsTold most birth sites fish (Err x) = FirstIs most birth sites fish x
 
 -- ---- the first refusal of a list of answers

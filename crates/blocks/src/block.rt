@@ -10,19 +10,12 @@ fn has_room(fish: usize, sites: usize, room: usize) -> bool
     fish <= room / sites
 }
 
-// The lesser of two lengths.
-fn least(a: usize, b: usize) -> usize
-    ensures { result ≡ min a b }
-{
-    if a < b { a } else { b }
-}
-
 // Whether both blocks of a panel take a byte for each fish and site.
 pub fn both_have_room(fish: usize, sites: usize, states: usize, flags: usize) -> bool
     requires { 0 < sites }
     ensures { result ≡ leb (fish * sites) (min states flags) }
 {
-    has_room(fish, sites, least(states, flags))
+    has_room(fish, sites, states.min(flags))
 }
 
 // Writes the first k cells of a column to place j of the rows of k fish from base on, each row as long as there are sites.
@@ -30,9 +23,7 @@ pub fn scatter(column: &[u8], k: usize, base: usize, sites: usize, j: usize, blo
     requires { (k ≤ length column.now) × (j < sites) × ((base + k) * sites ≤ length block.old) }
     ensures { Scattered sites base k j column.now block.old block.new }
 {
-    let mut a = 0;
-    while a < k {
+    for a in 0..k {
         block[(base + a) * sites + j] = column[a];
-        a += 1;
     }
 }

@@ -11,14 +11,7 @@ use meaning::Refusal;
 fn some_no_site(sites: &[u32], most: usize) -> bool
     ensures { result ≡ any_below (λ j. leb most (at sites.now j)) (length sites.now) }
 {
-    let mut j = 0;
-    while j < sites.len() {
-        if most <= sites[j] as usize {
-            return true;
-        }
-        j += 1;
-    }
-    false
+    sites.iter().any(|i| most <= *i as usize)
 }
 
 // Whether a number names no fish.
@@ -34,14 +27,7 @@ fn some_unknown(birth: &[u32], by_birth: &[u32], fish: &[u32]) -> bool
     requires { Ranked birth.now by_birth.now }
     ensures { result ≡ any_below (λ a. not (mem (at fish.now a) birth.now)) (length fish.now) }
 {
-    let mut a = 0;
-    while a < fish.len() {
-        if is_unknown(birth, by_birth, fish[a]) {
-            return true;
-        }
-        a += 1;
-    }
-    false
+    fish.iter().any(|b| is_unknown(birth, by_birth, *b))
 }
 
 // The refusal of the first single call that has one, of lists that are not empty.

@@ -11,11 +11,10 @@ use Rattle.meaning.specs.Words.{at, any, rows, rows_from}
 use Rattle.meaning.specs.Rows.{Mutation, MutationColumns, Tables, muts_of}
 use Rattle.meaning.specs.Allele.{sits, carries, last_state}
 use Rattle.laws.specs.Bools.{clash}
-use Rattle.laws.specs.Counting.{get_rows}
 use Rattle.bridge.specs.Parents.{no_row}
 use Rattle.bridge.specs.Sites.{mutation_row, any_end, any_miss, last_hit, last_miss}
 use Rattle.overtaking.specs.Known.{Known}
-use Rattle.missing.specs.Marks.{marked, Naming, mark, marks_of, states_of}
+use Rattle.missing.specs.Marks.{marked, Naming}
 use Rattle.missing.specs.Alone.{missing_row}
 use Rattle.alleles.specs.ByRows.{marks_at-is, states_at-is}
 use Rattle.carrying.specs.Kids.{KidsKnown}
@@ -73,14 +72,12 @@ module _ (L : ℕ) (T : Tables) (by : List ℕ) (I : Index) (ok : Prepared L T b
   few_rows = omega (arith, ok.readable.few)
 
   -- columns that are long enough can be worked on
-  pub ready : {par until kid kid_until own told state : List ℕ} → Long n (work_of par until kid kid_until own told state) → Ready T.nodes.time T.edges L by I.ends I.edge_first I.edge_past par until kid kid_until own told state
+  pub ready : {par until kid kid_until own told state : List ℕ} → Long n (work_of par until kid kid_until own told state) → Ready T.nodes.time T.edges I.ends I.edge_first I.edge_past par kid own told state
   ready w = record {
     asking = record {
       keeping = record {
-        indexed = record { even = ok.readable.rising.even; whole = ok.readable.whole; order = ok.readable.order; ends = ok.ends };
         ends_long = ok.ends_long;
         par_long = w.par;
-        until_long = w.until;
       };
       rising = ok.readable.rising;
       few = few_rows;
@@ -88,7 +85,6 @@ module _ (L : ℕ) (T : Tables) (by : List ℕ) (I : Index) (ok : Prepared L T b
       first_long = ok.edge_first_long;
       past_long = ok.edge_past_long;
       kid_long = w.kid;
-      kid_until_long = w.kid_until;
       own_long = w.own;
     };
     told_long = w.told;
@@ -157,12 +153,10 @@ module _ (L : ℕ) (T : Tables) (by : List ℕ) (I : Index) (ok : Prepared L T b
         }
 
 -- columns of the same lengths are long enough
-pub still_long : {n : ℕ} {par until kid kid_until own told state par' until' kid' kid_until' own' told' state' : List ℕ} → length par' ≡ length par → length until' ≡ length until → length kid' ≡ length kid → length kid_until' ≡ length kid_until → length own' ≡ length own → length told' ≡ length told → length state' ≡ length state → Long n (work_of par until kid kid_until own told state) → Long n (work_of par' until' kid' kid_until' own' told' state')
-still_long a b d e f g h w = record {
+pub still_long : {n : ℕ} {par until kid kid_until own told state par' until' kid' kid_until' own' told' state' : List ℕ} → length par' ≡ length par → length kid' ≡ length kid → length own' ≡ length own → length told' ≡ length told → length state' ≡ length state → Long n (work_of par until kid kid_until own told state) → Long n (work_of par' until' kid' kid_until' own' told' state')
+still_long a d f g h w = record {
   par = omega (arith, w.par);
-  until = omega (arith, w.until);
   kid = omega (arith, w.kid);
-  kid_until = omega (arith, w.kid_until);
   own = omega (arith, w.own);
   told = omega (arith, w.told);
   state = omega (arith, w.state);

@@ -1,45 +1,27 @@
 -- What a new site begins with: cleared cells, and answers that hold from its position on.
 use mathlib.Core.Path.{◌≡◌, refl, sym, ap, subst, ◌∙◌}
-use mathlib.Core.List.{List, [], ◌∷◌}
+use mathlib.Core.List.{List}
 use mathlib.Core.Logic.{◌⊎◌, inl, inr}
-use Prim.Native.Nat.{ℕ, zero, suc, ◌+◌, ◌<◌, ◌≤◌}
+use Prim.Native.Nat.{ℕ, zero, suc, ◌+◌, ◌≤◌}
 use native.Mathlib.Omega.{arith}
-use lib.ListN.{length, set}
-use lib.Seq.{get_or-set_same, get_or-set_other}
+use lib.ListN.{replicate}
 use Rattle.meaning.specs.Words.{at}
 use Rattle.meaning.specs.Rows.{EdgeColumns}
-use Rattle.laws.specs.Bools.{eq?}
 use Rattle.overtaking.specs.Known.{Known}
 use Rattle.overtaking.proofs.Knowing.{known_on, none_known}
 use Rattle.carrying.specs.Kids.{KidsKnown}
-use Rattle.carrying.specs.Children.{by_columns, by_table}
 use Rattle.carrying.specs.Fresh.{Unstamped, Forgotten}
 use Rattle.carrying.proofs.Childless.{le_or_lt}
 use Rattle.carrying.proofs.Childless as children
 
--- past its end a column has no number
-past_end : (l : List ℕ) (v : ℕ) → length l ≤ v → at l v ≡ 0
-past_end [] v h = refl
-past_end (a ∷ l) zero h = absurd (omega arith)
-past_end (a ∷ l) (suc v) h = past_end l v (omega arith)
+-- a column of zeros
+pub zero_cells : (n v : ℕ) → at (replicate n 0) v ≡ 0
+zero_cells zero v = refl
+zero_cells (suc n) zero = refl
+zero_cells (suc n) (suc v) = zero_cells n v
 
--- the cells passed are cleared
-abbrev pub Cleared : List ℕ → ℕ → Type 0
-Cleared column i = (v : ℕ) → v < i → at column v ≡ 0
-
-pub cleared_more : (column : List ℕ) (i : ℕ) → i < length column → Cleared column i → Cleared (set column i 0) (i + 1)
-cleared_more column i l k v h = go (eq? v i)
-  where
-    go : (v ≡ i) ⊎ (v ≡ i → ⊥) → at (set column i 0) v ≡ 0
-    go (inl z) = ap (at (set column i 0)) z ∙ get_or-set_same column i 0 0 l
-    go (inr n) = get_or-set_other column i v 0 0 n ∙ k v (omega arith)
-
-pub cleared_all : (column : List ℕ) (i : ℕ) → length column ≤ i → Cleared column i → (v : ℕ) → at column v ≡ 0
-cleared_all column i h k v = go (le_or_lt (length column) v)
-  where
-    go : (length column ≤ v) ⊎ (v < length column) → at column v ≡ 0
-    go (inl l) = past_end column v l
-    go (inr l) = k v (omega arith)
+pub cleared : {l : List ℕ} (n : ℕ) → l ≡ replicate n 0 → (v : ℕ) → at l v ≡ 0
+cleared {l} n e v = ap (λ (c : List ℕ). at c v) e ∙ zero_cells n v
 
 module _ {E : EdgeColumns} {x last : ℕ} {until₀ kid_until₀ until kid_until : List ℕ} where
   -- answers kept hold from x on
@@ -54,8 +36,15 @@ module _ {E : EdgeColumns} {x last : ℕ} {until₀ kid_until₀ until kid_until
   children_hold {kid} f k = go f.case
     where
       go : ((last ≤ x) × (until ≡ until₀) × (kid_until ≡ kid_until₀)) ⊎ (((v : ℕ) → at until v ≡ 0) × ((v : ℕ) → at kid_until v ≡ 0)) → KidsKnown E x kid kid_until
-      go (inl h) = subst (λ (u : List ℕ). KidsKnown E x kid u) (sym h.2) (by_table E (children.known_on x h.0 (by_columns k)))
-      go (inr h) = by_table E (children.none_known h.1)
+      go (inl h) = subst (λ (u : List ℕ). KidsKnown E x kid u) (sym h.2) (children.known_on x h.0 k)
+      go (inr h) = children.none_known h.1
+
+-- columns that are equal hold the same
+pub same_parents : {E : EdgeColumns} {x : ℕ} {par par' until : List ℕ} → par' ≡ par → Known E x par until → Known E x par' until
+same_parents {E} {x} {until = until} e k = subst (λ (p : List ℕ). Known E x p until) (sym e) k
+
+pub same_children : {E : EdgeColumns} {x : ℕ} {kid kid' until : List ℕ} → kid' ≡ kid → KidsKnown E x kid until → KidsKnown E x kid' until
+same_children {E} {x} {until = until} e k = subst (λ (p : List ℕ). KidsKnown E x p until) (sym e) k
 
 -- ---- a stamp that no row has
 

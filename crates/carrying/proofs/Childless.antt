@@ -3,18 +3,21 @@ use mathlib.Core.Path.{◌≡◌, refl, sym, ap, ◌∙◌}
 use mathlib.Core.Bool.{Bool, true, false}
 use mathlib.Core.List.{List}
 use mathlib.Core.Logic.{◌⊎◌, inl, inr, ⊎_elim}
-use Prim.Native.Nat.{ℕ, ◌+◌, ◌<◌, ◌≤◌}
+use mir.Val.{bool_byte}
+use Prim.Native.Nat.{ℕ, ◌+◌, ◌<◌, ◌≤◌, min}
 use native.Mathlib.Omega.{arith}
 use lib.Dec.{eqb, leb, ltb}
 use lib.ListN.{length, set, length-set}
 use lib.Seq.{get_or-set_same, get_or-set_other}
 use borrow.Author.Tests.{eqb-true, leb-true, leb-false, ltb-true, le-leb, lt-ltb, eq-eqb}
+use Rattle.meaning.specs.Rows.{EdgeColumns}
 use Rattle.meaning.specs.Words.{and, at, any_below}
 use Rattle.laws.specs.Bools.{clash, eq?, and_of, and_yes, not_true}
 use Rattle.laws.specs.Counting.{below_of, of_below}
 use Rattle.missing.specs.Alone.{under_row, child_row}
 use Rattle.carrying.specs.Spans.{InSpan}
-use Rattle.carrying.specs.Children.{Sooner, ChildHolds, ChildrenKnown}
+use Rattle.carrying.specs.Kids.{KidsKnown}
+use Rattle.carrying.specs.Children.{Sooner, ChildHolds}
 
 module _ (left right parent : List ℕ) (y u e : ℕ) where
   -- an edge under u at y, by its cells
@@ -96,31 +99,33 @@ module _ {left parent : List ℕ} {x u e end : ℕ} where
   pub begun_edge : at left e ≤ x → Sooner left parent x u e end end
   begun_edge h = record { before = omega arith; begin = λ q l. omega arith }
 
-  pub end_first : end < at left e → Sooner left parent x u e end end
-  end_first h = record { before = omega arith; begin = λ q l. omega arith }
-
-  pub begin_first : at left e ≤ end → Sooner left parent x u e end (at left e)
-  begin_first h = record { before = h; begin = λ q l. omega arith }
+  pub begin_first : {r : ℕ} → r ≡ min end (at left e) → Sooner left parent x u e end r
+  begin_first e = record { before = omega (arith, e); begin = λ q l. omega (arith, e) }
 
 -- ---- what is kept
 
 -- nothing is known at first
-pub none_known : {left right parent : List ℕ} {x : ℕ} {kid ends : List ℕ} → ((u : ℕ) → at ends u ≡ 0) → ChildrenKnown left right parent x kid ends
+pub none_known : {E : EdgeColumns} {x : ℕ} {kid ends : List ℕ} → ((u : ℕ) → at ends u ≡ 0) → KidsKnown E x kid ends
 none_known z = record { cell = λ u y l h k. absurd (omega (arith, z u)) }
 
 -- what is known stays so further on
-pub known_on : {left right parent : List ℕ} {x : ℕ} {kid ends : List ℕ} (y : ℕ) → x ≤ y → ChildrenKnown left right parent x kid ends → ChildrenKnown left right parent y kid ends
+pub known_on : {E : EdgeColumns} {x : ℕ} {kid ends : List ℕ} (y : ℕ) → x ≤ y → KidsKnown E x kid ends → KidsKnown E y kid ends
 known_on y h k = record { cell = λ u z l m. k.cell u z l (omega arith) }
 
+-- the byte that is kept
+pub byte_is : (b : Bool) → eqb (bool_byte b) 1 ≡ b
+byte_is true = refl
+byte_is false = refl
+
 -- an answer and its end, put at their row
-pub known_set : {left right parent : List ℕ} {x : ℕ} {kid ends : List ℕ} (u b : ℕ) {has : Bool} {end : ℕ} → ChildrenKnown left right parent x kid ends → length ends ≡ length kid → u < length kid → eqb b 1 ≡ has → ChildHolds left right parent x u has end → ChildrenKnown left right parent x (set kid u b) (set ends u end)
-known_set {left} {right} {parent} {x} {kid} {ends} u b {has} {end} k long row q holds = record { cell = λ v y l h m. go v y (omega (arith, length-set kid u b)) h m (eq? v u) }
+pub known_set : {E : EdgeColumns} {x : ℕ} {kid ends : List ℕ} (u b : ℕ) {has : Bool} {end : ℕ} → KidsKnown E x kid ends → length ends ≡ length kid → u < length kid → eqb b 1 ≡ has → ChildHolds E.left E.right E.parent x u has end → KidsKnown E x (set kid u b) (set ends u end)
+known_set {E} {x} {kid} {ends} u b {has} {end} k long row q holds = record { cell = λ v y l h m. go v y (omega (arith, length-set kid u b)) h m (eq? v u) }
   where
-    go : (v y : ℕ) → v < length kid → x ≤ y → y < at (set ends u end) v → (v ≡ u) ⊎ (v ≡ u → ⊥) → eqb (at (set kid u b) v) 1 ≡ child_row left right parent y v
+    go : (v y : ℕ) → v < length kid → x ≤ y → y < at (set ends u end) v → (v ≡ u) ⊎ (v ≡ u → ⊥) → eqb (at (set kid u b) v) 1 ≡ child_row E.left E.right E.parent y v
     go v y l h m (inl z) =
         let a : at (set kid u b) v ≡ b = ap (at (set kid u b)) z ∙ get_or-set_same kid u b 0 row in
         let d : at (set ends u end) v ≡ end = ap (at (set ends u end)) z ∙ get_or-set_same ends u end 0 (omega arith) in
-        ap (λ n. eqb n 1) a ∙ q ∙ holds.further y h (omega arith) ∙ sym (ap (child_row left right parent y) z)
+        ap (λ n. eqb n 1) a ∙ q ∙ holds.further y h (omega arith) ∙ sym (ap (child_row E.left E.right E.parent y) z)
     go v y l h m (inr n) =
         let d : at (set ends u end) v ≡ at ends v = get_or-set_other ends u v end 0 n in
         ap (λ c. eqb c 1) (get_or-set_other kid u v b 0 n) ∙ k.cell v y l h (omega arith)

@@ -46,9 +46,9 @@ module _ {time : List ℕ} {E : EdgeColumns} (up : Rising time E) (few : length 
 
 -- ---- columns of the same length will do
 
-pub still_up : {time : List ℕ} {E : EdgeColumns} {L : ℕ} {by ends par until told state par' until' told' state' : List ℕ} → length par' ≡ length par → length until' ≡ length until → length told' ≡ length told → length state' ≡ length state → Upwards time E L by ends par until told state → Upwards time E L by ends par' until' told' state'
-still_up p q r s k = record {
-  keeping = still_keeping p q k.keeping;
+pub still_up : {time : List ℕ} {E : EdgeColumns} {ends par told state par' told' state' : List ℕ} → length par' ≡ length par → length told' ≡ length told → length state' ≡ length state → Upwards time E ends par told state → Upwards time E ends par' told' state'
+still_up p r s k = record {
+  keeping = still_keeping p k.keeping;
   rising = k.rising;
   few = k.few;
   told_long = omega (arith, k.told_long);

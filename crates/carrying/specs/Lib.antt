@@ -8,3 +8,4 @@ pub mod Stamped
 pub mod Told
 pub mod Column
 pub mod Fresh
+pub mod Lent

@@ -9,8 +9,8 @@ use Rattle.ancestry.specs.Column.{Rising}
 use Rattle.overtaking.specs.Known.{Keeping}
 
 -- what going up asks of the tables and the columns
-pub record Upwards (time : List ℕ) (E : EdgeColumns) (L : ℕ) (by ends par until told state : List ℕ) : Type 0 where
-  pub keeping : Keeping E L (length time) by ends par until
+pub record Upwards (time : List ℕ) (E : EdgeColumns) (ends par told state : List ℕ) : Type 0 where
+  pub keeping : Keeping (length time) ends par
   pub rising : Rising time E
   pub few : length time ≤ no_row
   pub told_long : length time ≤ length told

@@ -1,5 +1,5 @@
 -- What is filled in once for a call, and what is kept from site to site.
-use Rattle.std.specs.Prelude.{◌≡◌, List, ℕ, ◌<◌, ◌≤◌, length}
+use Rattle.std.specs.Prelude.{List, ℕ, ◌<◌, ◌≤◌, length}
 use Rattle.meaning.specs.Words.{at}
 use Rattle.meaning.specs.Rows.{Tables}
 use Rattle.ancestry.specs.Index.{Ends}
@@ -49,9 +49,7 @@ work_of par until kid ku own told state = record { par = par; until = until; kid
 -- each column has a cell for each of n rows
 pub record Long (n : ℕ) (W : Work) : Type 0 where
   pub par : n ≤ length W.par
-  pub until : length W.until ≡ length W.par
   pub kid : n ≤ length W.kid
-  pub kid_until : length W.kid_until ≡ length W.kid
   pub own : n ≤ length W.own
   pub told : n ≤ length W.told
   pub state : n ≤ length W.state

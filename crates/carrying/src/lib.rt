@@ -5,72 +5,51 @@
 
 ghost use Rattle.std.specs.Prelude.{◌≡◌, ℕ, ◌<◌, ◌≤◌, length};
 ghost use Rattle.meaning.specs.Words.{at};
-ghost use Rattle.meaning.specs.Rows.{age_table, edge_table, site_table, mutation_table, tables};
-ghost use Rattle.carrying.specs.Spans.{Spans, first_by};
+ghost use Rattle.meaning.specs.Columns.{tables_in};
 ghost use Rattle.carrying.specs.Cells.{ColumnAt};
-ghost use Rattle.carrying.specs.Work.{index_by, Prepared, work_of, Kept};
+ghost use Rattle.carrying.specs.Lent.{IsPrepared, work_in, KeptAt};
 
-mod kids; // whether a row has a child, kept up to where that changes
+pub mod spans; // where the rows that name a number lie
+pub mod kids; // whether a row has a child, kept up to where that changes
 mod marks; // the stamps and states of a site's mutations
 mod carry; // the way up to a row whose state is told
 mod column; // the two bytes of each row listed
 mod fresh; // a new stamp, and answers thrown away
 
-// The first row that names a number: the one noted, or row e where none is noted yet.
-fn first_of(first: u32, past: u32, e: u32) -> u32
-    ensures { result ≡ first_by first past e }
-{
-    if past == 0 {
-        return e;
-    }
-    first
+use ancestry::edge_index::EdgeIndex;
+use kids::Kids;
+use meaning::columns::Tables;
+use overtaking::known::Kept;
+use spans::SpanColumns;
+
+// What is the same for all sites of a call: the tables, their edges by child with the ends of each row's, and where the edges of a
+// parent and the mutations of a site lie.
+#[derive(Clone, Copy)]
+pub struct Filled<'a> {
+    pub len: u32,
+    pub tables: Tables<'a>,
+    pub by_child: &'a [u32],
+    pub ends: &'a [u32],
+    pub parents: SpanColumns<'a>,
+    pub muts: SpanColumns<'a>,
 }
 
-// Notes for each number of a column the first row that names it and the row after the last; the ends are 0 at first.
-pub fn fill_spans(column: &[u32], first: &mut [u32], past: &mut [u32])
-    requires { ((e : ℕ) → e < length column.now → at column.now e < length first.old) ×
-        (length past.old ≡ length first.old) ×
-        (length column.now ≤ 4294967295) ×
-        ((v : ℕ) → at past.old v ≡ 0) }
-    ensures { Spans column.now first.new past.new }
-{
-    let mut e = 0;
-    while e < column.len() {
-        let v = column[e] as usize;
-        first[v] = first_of(first[v], past[v], e as u32);
-        past[v] = e as u32 + 1;
-        e += 1;
-    }
+// Where the sites told so far have come to: the position last asked, and the stamp last given.
+#[derive(Clone, Copy)]
+pub struct Trail {
+    pub last: u32,
+    pub stamp: u32,
 }
 
-// The bytes of the rows listed at site row i, with a stamp that no row has yet; the stamp is handed back. Answers are kept from the
-// position last asked, and thrown away where this site lies before it.
+// The bytes of the rows listed at site row i, with a stamp that no row has yet. Kept from site to site are answers of the lookups, the
+// stamps of rows with a mutation of their own and of rows whose state is told, and these states. The answers are kept from the position
+// last asked, and thrown away where this site lies before it.
 pub fn tell_site(
-    len: u32,
-    time: &[u32],
-    birth: &[u32],
-    left: &[u32],
-    right: &[u32],
-    parent: &[u32],
-    child: &[u32],
-    position: &[u32],
-    ancestral: &[u8],
-    site: &[u32],
-    node: &[u32],
-    derived: &[u8],
-    by_child: &[u32],
-    ends: &[u32],
-    edge_first: &[u32],
-    edge_past: &[u32],
-    mut_first: &[u32],
-    mut_past: &[u32],
+    filled: Filled,
     i: u32,
-    last: u32,
-    t: u32,
-    par: &mut [u32],
-    until: &mut [u32],
-    kid: &mut [u8],
-    kid_until: &mut [u32],
+    trail: Trail,
+    kept: &mut Kept,
+    kids: &mut Kids,
     own: &mut [u32],
     told: &mut [u32],
     state: &mut [u8],
@@ -78,74 +57,47 @@ pub fn tell_site(
     k: usize,
     states: &mut [u8],
     flags: &mut [u8],
-) -> u32
-    requires { Prepared len
-        (tables
-        (age_table time.now birth.now)
-        (edge_table left.now right.now parent.now child.now)
-        (site_table position.now ancestral.now)
-        (mutation_table site.now node.now derived.now)) by_child.now
-        (index_by ends.now edge_first.now edge_past.now mut_first.now mut_past.now) ×
-        Kept
-        (tables
-        (age_table time.now birth.now)
-        (edge_table left.now right.now parent.now child.now)
-        (site_table position.now ancestral.now)
-        (mutation_table site.now node.now derived.now)) last t
-        (work_of par.old until.old kid.old kid_until.old own.old told.old state.old) ×
-        (i < length position.now) ×
+) -> Trail
+    requires { IsPrepared filled ×
+        KeptAt (tables_in filled.tables) trail (work_in kept.old kids.old own.old told.old state.old) ×
+        (i < length filled.tables.sites.position.now) ×
         (k ≤ length rows.now) ×
         (k ≤ length states.old) ×
         (k ≤ length flags.old) ×
-        ((j : ℕ) → j < k → at rows.now j < length time.now) }
-    ensures { ColumnAt
-        (tables
-        (age_table time.now birth.now)
-        (edge_table left.now right.now parent.now child.now)
-        (site_table position.now ancestral.now)
-        (mutation_table site.now node.now derived.now)) i k rows.now states.new flags.new ×
-        Kept
-        (tables
-        (age_table time.now birth.now)
-        (edge_table left.now right.now parent.now child.now)
-        (site_table position.now ancestral.now)
-        (mutation_table site.now node.now derived.now)) (at position.now i) result
-        (work_of par.new until.new kid.new kid_until.new own.new told.new state.new) }
+        ((j : ℕ) → j < k → at rows.now j < length filled.tables.ages.time.now) }
+    ensures column { ColumnAt (tables_in filled.entry.tables) i k rows.now states.new flags.new }
+    ensures kept { KeptAt (tables_in filled.entry.tables) result (work_in kept.new kids.new own.new told.new state.new) }
+    ensures last { result.last ≡ at filled.entry.tables.sites.position.now i }
 {
     let at = i as usize;
-    let x = position[at];
-    fresh::forget(x, last, until, kid_until);
-    let s = fresh::next_stamp(t, own, told);
+    let x = filled.tables.sites.position[at];
+    fresh::forget(x, trail.last, kept, kids);
+    let stamp = fresh::next_stamp(trail.stamp, own, told);
     marks::mark_site(
-        site,
-        node,
-        derived,
+        filled.tables.mutations,
         i,
-        mut_first[at],
-        mut_past[at],
-        s,
+        filled.muts.first[at],
+        filled.muts.past[at],
+        stamp,
         own,
         told,
         state,
     );
+    let index = EdgeIndex {
+        len: filled.len,
+        edges: filled.tables.edges,
+        by_child: filled.by_child,
+        ends: filled.ends,
+    };
     column::tell_rows(
-        len,
-        time,
-        left,
-        right,
-        parent,
-        child,
-        by_child,
-        ends,
-        edge_first,
-        edge_past,
+        index,
+        filled.tables.ages.time,
+        filled.parents,
         x,
-        s,
-        ancestral[at],
-        par,
-        until,
-        kid,
-        kid_until,
+        stamp,
+        filled.tables.sites.ancestral[at],
+        kept,
+        kids,
         own,
         told,
         state,
@@ -154,5 +106,5 @@ pub fn tell_site(
         states,
         flags,
     );
-    s
+    Trail { last: x, stamp }
 }

@@ -14,7 +14,7 @@ use Rattle.meaning.specs.Called.{packed}
 use Rattle.meaning.specs.Panel.{PanelOutcome, PanelCall, panel_of, singles, first_refused, panel_answer, panel_end, panel, panel_call}
 use Rattle.meaning.specs.declared.Refusal.{Refusal}
 use Rattle.meaning.specs.Panel.{Panel}
-use Rattle.meaning.specs.declared.Panel.TheVariants.{Done, Refused}
+use Rattle.std.specs.Prelude.{Ok, Err}
 use Rattle.ffr.proofs.Rows.{Low, low_if, low_check}
 
 -- ---- every row that the answer names is a number of four bytes
@@ -92,13 +92,13 @@ module _ (L : ℕ) (T : Tables) (sites fish states flags : List ℕ) (x : Panel)
   called q = ap call_of (told q)
 
   -- a refusal's row is a number of four bytes
-  pub row_small : {r : Refusal} → x ≡ Refused r → (refusal_of r).row < 4294967296
+  pub row_small : {r : Refusal} → x ≡ Err r → (refusal_of r).row < 4294967296
   unfolding panel panel_end
   row_small q = omega (arith, ap (λ (o : PanelOutcome). o.answer.row) (told q), low_panel L T sites fish states flags)
 
-  pub call_refused : {r : Refusal} {v : ℕ} → x ≡ Refused r → v ≡ packed (refusal_of r) → ◌≡◌ {A = PanelCall} (record { code = v; states = states'; flags = flags' }) (panel_call limits L T sites fish states flags)
+  pub call_refused : {r : Refusal} {v : ℕ} → x ≡ Err r → v ≡ packed (refusal_of r) → ◌≡◌ {A = PanelCall} (record { code = v; states = states'; flags = flags' }) (panel_call limits L T sites fish states flags)
   call_refused {r} q p = (λ i. record { code = p i; states = states'; flags = flags' }) ∙ called q
 
-  pub call_done : {n : ℕ} → x ≡ Done n → ◌≡◌ {A = PanelCall} (record { code = 0; states = states'; flags = flags' }) (panel_call limits L T sites fish states flags)
+  pub call_done : {n : ℕ} → x ≡ Ok n → ◌≡◌ {A = PanelCall} (record { code = 0; states = states'; flags = flags' }) (panel_call limits L T sites fish states flags)
   unfolding packed
   call_done q = called q

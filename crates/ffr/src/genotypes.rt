@@ -4,6 +4,8 @@ ghost use Rattle.meaning.specs.Rows.{node_table, edge_table, site_table, mutatio
 ghost use Rattle.meaning.specs.Answer.{limits};
 ghost use Rattle.meaning.specs.Panel.{PanelCall, panel_call};
 
+use meaning::columns::Lent;
+
 use crate::pack;
 
 // The answer's number times 2^32 plus its row; after 0 both blocks have a byte for each fish and site, fish by fish.
@@ -34,10 +36,21 @@ pub extern "C" fn ffr_alleles_v2(
         (site_table position.now ancestral.now)
         (mutation_table site.now node.now derived.now)) sites.now fish.now states.old flags.old) }
 {
-    match panel::alleles(
-        len, time, birth, population, left, right, parent, child, position, ancestral, site, node,
-        derived, sites, fish, states, flags,
-    ) {
+    let lent = Lent {
+        time,
+        birth,
+        population,
+        left,
+        right,
+        parent,
+        child,
+        position,
+        ancestral,
+        site,
+        node,
+        derived,
+    };
+    match panel::alleles(len, lent, sites, fish, states, flags) {
         Err(x) => pack::pack(x),
         Ok(_) => 0,
     }

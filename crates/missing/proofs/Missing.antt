@@ -6,10 +6,10 @@ use mathlib.Core.Option.{Option, none, some}
 use Prim.Native.Nat.{ℕ, ◌+◌, ◌<◌, ◌≤◌}
 use native.Mathlib.Numerals.{add-one}
 use native.Mathlib.Omega.{arith}
-use lib.Dec.{eqb, leb, ltb}
+use lib.Dec.{eqb}
 use lib.ListN.{length}
-use borrow.Author.Tests.{eq-eqb, ne_eqb, le-leb, lt-leb}
-use Rattle.meaning.specs.Words.{and, or, at, any_below}
+use borrow.Author.Tests.{eq-eqb, ne_eqb}
+use Rattle.meaning.specs.Words.{or, at, any_below}
 use Rattle.meaning.specs.Rows.{EdgeColumns}
 use Rattle.meaning.specs.Allele.{found}
 use Rattle.laws.specs.Bools.{or_right}
@@ -21,25 +21,6 @@ use Rattle.ancestry.specs.Stretch.{stretch_at}
 use Rattle.missing.specs.Marks.{marked}
 use Rattle.missing.specs.Climbable.{Climbable}
 use Rattle.missing.specs.Alone.{under_row, child_row, missing_row}
-
--- ---- one edge
-
-module _ (left right parent : List ℕ) (x u e : ℕ) where
-  pub other_parent : (at parent e ≡ u → ⊥) → false ≡ under_row left right parent x u e
-  unfolding under_row
-  other_parent n = sym (ap (λ t. and t (and (leb (at left e) x) (ltb x (at right e)))) (ne_eqb (at parent e) u n))
-
-  pub begins_later : at parent e ≡ u → x < at left e → false ≡ under_row left right parent x u e
-  unfolding under_row
-  begins_later p h = sym
-      (ap (λ t. and t (and (leb (at left e) x) (ltb x (at right e)))) (eq-eqb (at parent e) u p)
-      ∙ ap (λ t. and t (ltb x (at right e))) (lt-leb (at left e) x h))
-
-  pub by_end : at parent e ≡ u → at left e ≤ x → ltb x (at right e) ≡ under_row left right parent x u e
-  unfolding under_row
-  by_end p h = sym
-      (ap (λ t. and t (and (leb (at left e) x) (ltb x (at right e)))) (eq-eqb (at parent e) u p)
-      ∙ ap (λ t. and t (ltb x (at right e))) (le-leb (at left e) x h))
 
 -- ---- all edges
 
@@ -64,7 +45,7 @@ module _ (left right parent : List ℕ) (x u : ℕ) where
 
 -- ---- one row
 
-module _ {time : List ℕ} {E : EdgeColumns} {L : ℕ} {by ends has : List ℕ} {u : ℕ} (ok : Climbable time E L by ends has u) (x : ℕ) where
+module _ {time : List ℕ} {E : EdgeColumns} {ends has : List ℕ} {u : ℕ} (ok : Climbable time E ends has u) (L x : ℕ) where
   abbrev below : Bool
   below = child_row E.left E.right E.parent x u
 

@@ -1,6 +1,6 @@
 -- M-103 by rows: whether a row has a child at a position, and whether it is missing there.
-use Rattle.std.specs.Prelude.{◌≡◌, refl, Bool, true, false, not, List, ℕ, ◌<◌, eqb, leb, ltb, length}
-use Rattle.std.proofs.Common.{sym, ap₂, ◌∙◌}
+use Rattle.std.specs.Prelude.{◌≡◌, refl, Bool, not, List, ℕ, ◌<◌, eqb, leb, ltb, length}
+use Rattle.std.proofs.Common.{◌∙◌}
 use Rattle.std.proofs.Math.Path.{ap}
 use Rattle.std.proofs.Math.Option.{Option, none, some}
 use Rattle.meaning.specs.Words.{and, or, at, any_below}

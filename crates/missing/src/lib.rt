@@ -3,66 +3,48 @@
 #![tactic(auto)]
 
 ghost use Rattle.std.specs.Prelude.{◌≡◌, ◌<◌, length};
-ghost use Rattle.meaning.specs.Rows.{edge_table};
+ghost use Rattle.meaning.specs.Columns.{edges_in};
 ghost use Rattle.missing.specs.Alone.{under_row, child_row, missing_row};
 ghost use Rattle.missing.specs.Climbable.{Climbable};
 
+use ancestry::ParentColumn;
+use ancestry::edge_index::EdgeIndex;
+use meaning::columns::EdgeColumns;
+
 // Whether edge row e holds at x and has u as its parent.
-pub fn is_under(left: &[u32], right: &[u32], parent: &[u32], x: u32, u: u32, e: usize) -> bool
-    requires { (e < length left.now) × (e < length right.now) × (e < length parent.now) }
-    ensures { result ≡ under_row left.now right.now parent.now x u e }
+#[tactic(auto, unfolding(crate::specs::Alone::under_row))]
+pub fn is_under(edges: EdgeColumns, x: u32, u: u32, e: usize) -> bool
+    requires { e < length edges.left.now }
+    ensures { result ≡ under_row edges.entry.left.now edges.entry.right.now edges.entry.parent.now x u e }
 {
-    if parent[e] != u {
-        return false;
-    }
-    let begin = left[e];
-    let end = right[e];
-    if x < begin {
-        return false;
-    }
-    x < end
+    edges.parent[e] == u && edges.left[e] <= x && x < edges.right[e]
 }
 
 // Whether row u has a child at x.
-fn has_child(left: &[u32], right: &[u32], parent: &[u32], x: u32, u: u32) -> bool
-    requires { (length right.now ≡ length left.now) × (length parent.now ≡ length left.now) }
-    ensures { result ≡ child_row left.now right.now parent.now x u }
+fn has_child(edges: EdgeColumns, x: u32, u: u32) -> bool
+    ensures { result ≡ child_row edges.entry.left.now edges.entry.right.now edges.entry.parent.now x u }
 {
-    let mut e = 0;
-    while e < left.len() {
-        if is_under(left, right, parent, x, u, e) {
+    for e in 0..edges.left.len() {
+        if is_under(edges, x, u, e) {
             return true;
         }
-        e += 1;
     }
     false
 }
 
-// Whether row u is missing at x, by the marks of the site's mutations.
-pub fn is_missing(
-    len: u32,
-    time: &[u32],
-    left: &[u32],
-    right: &[u32],
-    parent: &[u32],
-    child: &[u32],
-    by_child: &[u32],
-    ends: &[u32],
-    has: &[u8],
-    x: u32,
-    u: u32,
-) -> bool
-    requires { Climbable time.now (edge_table left.now right.now parent.now child.now) len by_child.now ends.now has.now u }
-    ensures { result ≡ missing_row (edge_table left.now right.now parent.now child.now) x has.now u }
+// Whether row u is missing at x, by the marks of the site's mutations: a byte for each row, 1 where it has one.
+pub fn is_missing(index: EdgeIndex, time: &[u32], has: &[u8], x: u32, u: u32) -> bool
+    requires { Climbable time.now (edges_in index.edges) index.ends.now has.now u }
+    ensures { result ≡ missing_row (edges_in index.entry.edges) x has.now u }
 {
     if has[u as usize] == 1 {
         return false;
     }
-    let s = ancestry::lookup::parent_from(len, left, right, parent, child, by_child, ends, x, u);
+    let s = ancestry::lookup::parent_from(index, x, u);
     let p = s.parent;
-    if p != ancestry::ParentColumn::NONE {
+    if p != ParentColumn::NONE {
         return false;
     }
-    let below = has_child(left, right, parent, x, u);
+    let below = has_child(index.edges, x, u);
     !below
 }

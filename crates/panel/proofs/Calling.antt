@@ -3,18 +3,17 @@ use mathlib.Core.Path.{◌≡◌, refl, sym, ap, subst, ◌∙◌}
 use mathlib.Core.Bool.{Bool, true, false, not}
 use mathlib.Core.List.{List, [], ◌∷◌, ◌++◌, map}
 use mathlib.Core.Logic.{◌⊎◌, inl, inr}
-use Prim.Native.Nat.{ℕ, zero, suc, ◌*◌, ◌<◌, ◌≤◌, min}
+use Prim.Native.Nat.{ℕ, zero, suc, ◌<◌, ◌≤◌, min}
 use native.Mathlib.Omega.{arith}
 use lib.Dec.{leb}
-use lib.ListN.{length, replicate, take, length-replicate}
+use lib.ListN.{length, replicate, length-replicate}
 use borrow.Author.Tests.{leb-true, leb-false}
 use Rattle.meaning.specs.declared.Refusal.{Refusal}
 use Rattle.meaning.specs.Answer.{Checked}
 use Rattle.std.specs.Prelude.{Ok, Err}
-use Rattle.meaning.specs.declared.Panel.TheVariants as answered
 use Rattle.meaning.specs.Words.{at, each}
 use Rattle.meaning.specs.Rows.{Tables}
-use Rattle.meaning.specs.Answer.{Answer, Stated, done, limits, accepted, refusal_of, checked_of}
+use Rattle.meaning.specs.Answer.{Answer, Stated, done, limits, refusal_of, checked_of}
 use Rattle.meaning.specs.Check.{check_then}
 use Rattle.meaning.specs.Allele.{allele}
 use Rattle.meaning.specs.Panel.{PanelOutcome, panel_of, panel_end, panel_answer, panel, singles, first_refused}
@@ -28,8 +27,9 @@ use Rattle.alleles.specs.Call.{read_allele}
 use Rattle.alleles.proofs.Whole.{whole_read}
 use Rattle.ancestry.specs.Index.{Ends}
 use Rattle.alleles.specs.Reading.{Readable}
+use Rattle.carrying.proofs.Beginning.{zero_cells}
 use Rattle.carrying.specs.Spans.{Spans}
-use Rattle.carrying.specs.Work.{Work, work_of, Kept, index_by, Prepared}
+use Rattle.carrying.specs.Work.{work_of, Kept, index_by, Prepared}
 use Rattle.blocks.specs.Lists.{readings, AllThere, FirstIs, ListsTold}
 use Rattle.panel.specs.Whole.{SitesNamed, room_then, after_check, end_refused, first_refused-is}
 
@@ -37,14 +37,6 @@ use Rattle.panel.specs.Whole.{SitesNamed, room_then, after_check, end_refused, f
 
 abbrev zeros : ℕ → List ℕ
 zeros n = replicate n 0
-
-zero_cells : (n v : ℕ) → at (zeros n) v ≡ 0
-zero_cells zero v = refl
-zero_cells (suc n) zero = refl
-zero_cells (suc n) (suc v) = zero_cells n v
-
-pub cleared : {l : List ℕ} (n : ℕ) → l ≡ replicate n 0 → (v : ℕ) → at l v ≡ 0
-cleared {l} n e v = ap (λ (c : List ℕ). at c v) e ∙ zero_cells n v
 
 -- what is filled in once for a call
 pub prepared : {L : ℕ} {T : Tables} {by ends ef ep mf mp : List ℕ} → Readable L T by → ((j : ℕ) → j < length T.muts.site → at T.muts.site j < length T.sites.position) → Ends T.edges.child by ends → Spans T.edges.parent ef ep → Spans T.muts.site mf mp → length ends ≡ 1024 → length ef ≡ 1024 → length ep ≡ 1024 → length mf ≡ 512 → length mp ≡ 512 → length T.sites.position ≤ 512 → Prepared L T by (index_by ends ef ep mf mp)
@@ -66,7 +58,7 @@ pub nothing_kept : (T : Tables) → length T.nodes.time ≤ 1024 → Kept T 0 0 
 nothing_kept T few =
     let l : length (zeros 1024) ≡ 1024 = length-replicate {A = ℕ} 1024 0 in
     record {
-      long = record { par = omega arith; until = refl; kid = omega arith; kid_until = refl; own = omega arith; told = omega arith; state = omega arith };
+      long = record { par = omega arith; kid = omega arith; own = omega arith; told = omega arith; state = omega arith };
       known = record { cell = λ u y a b c. absurd (omega (arith, zero_cells 1024 u)) };
       kids = record { cell = λ u y a b c. absurd (omega (arith, zero_cells 1024 u)) };
       own = λ v. omega (arith, zero_cells 1024 v);
@@ -85,7 +77,7 @@ told_refused most birth sites fish r x t e = subst (ListsTold most birth sites f
 pub told_sound : (most : ℕ) (birth sites fish : List ℕ) (r : Checked) → ListsTold most birth sites fish r → r ≡ Ok tt → AllThere most birth sites fish
 told_sound most birth sites fish r t e = subst (ListsTold most birth sites fish) e t
 
-pub refused_first : (L : ℕ) (T : Tables) (sites fish states flags : List ℕ) (r : Checked) (x : Refusal) → ListsTold (length T.sites.position) T.nodes.birth sites fish r → r ≡ Err x → panel_of (answered.Refused x) states flags ≡ after_check L T sites fish states flags
+pub refused_first : (L : ℕ) (T : Tables) (sites fish states flags : List ℕ) (r : Checked) (x : Refusal) → ListsTold (length T.sites.position) T.nodes.birth sites fish r → r ≡ Err x → panel_of (Err x) states flags ≡ after_check L T sites fish states flags
 refused_first L T sites fish states flags r x t e = first_refused-is L T sites fish states flags x (refused x) (told_refused (length T.sites.position) T.nodes.birth sites fish r x t e)
 
 pub short_of : {a b : ℕ} (t : Bool) → not t ≡ true → t ≡ leb a b → b < a
@@ -116,6 +108,19 @@ module _ (L : ℕ) (T : Tables) (s : TablesSound limits L T) where
   sites_of : SitesNamed (length T.sites.position) T.muts.site
   sites_of = record { there = (lined (length T.sites.position) (length T.nodes.time) T.muts s.shaped.node_long s.sites.whole).site_row }
 
+-- tables that are equal are as few, and give the same
+pub still_named : {T T' : Tables} → T' ≡ T → SitesNamed (length T.sites.position) T.muts.site → SitesNamed (length T'.sites.position) T'.muts.site
+still_named e n = subst (λ (T : Tables). SitesNamed (length T.sites.position) T.muts.site) (sym e) n
+
+pub still_few_sites : {T T' : Tables} {n : ℕ} → T' ≡ T → length T.sites.position ≤ n → length T'.sites.position ≤ n
+still_few_sites e h = omega (arith, ap (λ (T : Tables). length T.sites.position) e)
+
+pub still_few_mutations : {T T' : Tables} {n : ℕ} → T' ≡ T → length T.muts.site ≤ n → length T'.muts.site ≤ n
+still_few_mutations e h = omega (arith, ap (λ (T : Tables). length T.muts.site) e)
+
+pub still_after : (L : ℕ) (sites fish states flags : List ℕ) {T T' : Tables} {o : PanelOutcome} → T' ≡ T → o ≡ after_check L T' sites fish states flags → o ≡ after_check L T sites fish states flags
+still_after L sites fish states flags e q = q ∙ ap (λ (T : Tables). after_check L T sites fish states flags) e
+
 map_same : {A B : Type 0} (f g : A → B) → ((a : A) → f a ≡ g a) → (l : List A) → map f l ≡ map g l
 map_same f g h [] = refl
 map_same f g h (a ∷ l) = λ i. h a i ∷ map_same f g h l i
@@ -143,7 +148,7 @@ module _ (L : ℕ) (T : Tables) (c : Checked) (e : checked_of c ≡ check_then l
 
   module _ (sites fish states flags : List ℕ) where
     -- the check's refusal is the call's
-    pub whole_refused : (r : Refusal) → c ≡ Err r → panel_of (answered.Refused r) states flags ≡ panel limits L T sites fish states flags
+    pub whole_refused : (r : Refusal) → c ≡ Err r → panel_of (Err r) states flags ≡ panel limits L T sites fish states flags
     unfolding panel panel_answer
     whole_refused r q = sym
         (ap (λ (a : Answer). panel_end a (singles limits L T sites fish) states flags) (sym (stops (check_then limits L T) hand c e r q (first_refused (singles limits L T sites fish) (room_then states flags (length (singles limits L T sites fish))))) ∙ ap checked_of q)

@@ -1,10 +1,9 @@
 -- The bytes of the single calls by rows: of the fish's row and the site's columns.
-use Rattle.std.specs.Prelude.{◌≡◌, Bool, List, map, ℕ, ◌+◌, ◌*◌, ◌<◌, ◌≤◌, length, get_or}
+use Rattle.std.specs.Prelude.{◌≡◌, Bool, List, ℕ, ◌+◌, ◌*◌, ◌<◌, length, get_or}
 use Rattle.std.proofs.Math.Path.{refl, ap}
 use Rattle.std.proofs.Common.{sym, ◌∙◌, arith}
 use Rattle.std.proofs.Math.Bool.{true, false}
-use Rattle.std.proofs.lemmas.List.{length-map}
-use Rattle.meaning.specs.Words.{at, mem, index_of, each}
+use Rattle.meaning.specs.Words.{at, mem, index_of}
 use Rattle.meaning.specs.Rows.{Tables, record_of}
 use Rattle.meaning.specs.Answer.{Stated, done, absent}
 use Rattle.meaning.specs.Allele.{allele_at, missing_at, stated}

@@ -1,10 +1,10 @@
 -- M-100 cell by cell: after 0, the bytes of fish a and site c are those of the single call, at a times the number of sites plus c.
-use Rattle.std.specs.Prelude.{◌≡◌, refl, List, ◌++◌, map, ℕ, ◌+◌, ◌*◌, ◌<◌, length, get_or, drop}
-use Rattle.std.proofs.Common.{sym, ◌∙◌, arith}
+use Rattle.std.specs.Prelude.{◌≡◌, List, ℕ, ◌+◌, ◌*◌, ◌<◌, length, get_or, drop}
+use Rattle.std.proofs.Common.{◌∙◌, arith}
 use Rattle.std.proofs.Math.Path.{ap}
 use Rattle.std.proofs.lemmas.List.{length-map}
 use Rattle.std.proofs.Math.ListN.{get_or-append}
-use Rattle.meaning.specs.Words.{at, each}
+use Rattle.meaning.specs.Words.{at}
 use Rattle.meaning.specs.Rows.{Tables}
 use Rattle.meaning.specs.Answer.{Answer, Limits, Stated, done, absent, put}
 use Rattle.meaning.specs.Allele.{allele}

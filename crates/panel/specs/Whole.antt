@@ -1,20 +1,19 @@
 -- The call after the check of the tables: what it gives and leaves, outcome by outcome.
-use Rattle.std.specs.Prelude.{◌≡◌, Bool, ◌⊎◌, ltb, drop}
+use Rattle.std.specs.Prelude.{◌≡◌, Bool, ◌⊎◌, ltb, Ok, Err}
 use Rattle.std.proofs.Math.Path.{refl, sym, ap}
-use Rattle.std.proofs.Common.{ap₂, ◌∙◌, inl, inr, zero-mul, mul-zero, lt-ltb, le-ltb}
+use Rattle.std.proofs.Common.{◌∙◌, inl, inr, zero-mul, mul-zero, lt-ltb, le-ltb}
 use Rattle.std.proofs.Math.Bool.{true, false}
-use mathlib.Core.List.{List, [], ◌∷◌, ◌++◌, map}
-use Prim.Native.Nat.{ℕ, zero, suc, ◌+◌, ◌*◌, ◌<◌, ◌≤◌, min}
+use mathlib.Core.List.{List, [], ◌∷◌}
+use Prim.Native.Nat.{ℕ, ◌+◌, ◌*◌, ◌<◌, ◌≤◌, min}
 use native.Mathlib.Omega.{arith}
 use Rattle.std.proofs.Math.ListN.{length}
 use Rattle.std.proofs.lemmas.List.{length-map}
-use Rattle.meaning.specs.Words.{at, each, index_of}
+use Rattle.meaning.specs.Words.{at, index_of}
 use Rattle.meaning.specs.Rows.{Tables}
 use Rattle.meaning.specs.Answer.{Answer, Stated, answer, done, refuse, accepted, room, put, left_by, refusal_of}
 use Rattle.meaning.specs.Panel.{PanelOutcome, panel_of, panel_end, bytes_by, first_refused, state_bytes, flag_bytes, flag}
 use Rattle.meaning.specs.declared.Refusal.{Refusal}
 use Rattle.meaning.specs.declared.Refusal.TheVariants.{NoRoom}
-use Rattle.meaning.specs.declared.Panel.TheVariants as answered
 use Rattle.alleles.specs.Reading.{Readable}
 use Rattle.alleles.specs.Call.{read_allele}
 use Rattle.blocks.specs.Block.{FishWritten, all_written, row_below, length_cells}
@@ -67,7 +66,7 @@ module _ (L : ℕ) (T : Tables) (sites fish states flags : List ℕ) where
   by_answer a e = ap (λ (a : Answer). panel_end a cells states flags) e
 
   -- one of the lists is empty: no single call
-  pub nothing : (length sites ≡ 0) ⊎ (length fish ≡ 0) → panel_of (answered.Done 0) states flags ≡ after_check L T sites fish states flags
+  pub nothing : (length sites ≡ 0) ⊎ (length fish ≡ 0) → panel_of (Ok 0) states flags ≡ after_check L T sites fish states flags
   unfolding readings first_refused put
   nothing h = sym (by_answer done (ap (λ (l : List Stated). first_refused l (room_then states flags (length l))) empty ∙ enough_room cells states flags 0 (omega arith) (omega arith)) ∙ ap (λ (l : List Stated). panel_end done l states flags) empty ∙ end_done [] states flags)
     where
@@ -83,7 +82,7 @@ module _ (L : ℕ) (T : Tables) (sites fish states flags : List ℕ) where
       empty = none_at_all cells (length_cells (read_allele L T) sites fish ∙ none h)
 
   -- a single call that is refused
-  pub first_refused-is : (x : Refusal) → accepted (refusal_of x) ≡ false → FirstIs (length T.sites.position) T.nodes.birth sites fish x → panel_of (answered.Refused x) states flags ≡ after_check L T sites fish states flags
+  pub first_refused-is : (x : Refusal) → accepted (refusal_of x) ≡ false → FirstIs (length T.sites.position) T.nodes.birth sites fish x → panel_of (Err x) states flags ≡ after_check L T sites fish states flags
   first_refused-is x r f = sym (by_answer (refusal_of x) (f.refused L T refl refl (room_then states flags (length cells))) ∙ end_refused cells states flags (refusal_of x) r)
 
   module _ (by : List ℕ) (ok : Readable L T by) (all : AllThere (length T.sites.position) T.nodes.birth sites fish) where
@@ -91,14 +90,14 @@ module _ (L : ℕ) (T : Tables) (sites fish states flags : List ℕ) where
     need = readings_long L T by ok sites fish all
 
     -- one of the blocks is short
-    pub no_room : (length states < length fish * length sites) ⊎ (length flags < length fish * length sites) → panel_of (answered.Refused (NoRoom 7)) states flags ≡ after_check L T sites fish states flags
+    pub no_room : (length states < length fish * length sites) ⊎ (length flags < length fish * length sites) → panel_of (Err (NoRoom 7)) states flags ≡ after_check L T sites fish states flags
     unfolding accepted
     no_room h = sym
         (by_answer (answer 13 7) (all_there L T sites fish (room_then states flags (length cells)) all.sites_there all.fish_known ∙ ap (room_then states flags) need ∙ short_room cells states flags (length fish * length sites) h)
         ∙ end_refused cells states flags (answer 13 7) refl)
 
     -- all is written
-    pub all_done : (n : ℕ) (states' flags' : List ℕ) → n ≡ length fish * length sites → n ≤ length states → n ≤ length flags → FishWritten (state_byte T sites fish) (length sites) (length fish) states states' → FishWritten (flag_byte T sites fish) (length sites) (length fish) flags flags' → panel_of (answered.Done n) states' flags' ≡ after_check L T sites fish states flags
+    pub all_done : (n : ℕ) (states' flags' : List ℕ) → n ≡ length fish * length sites → n ≤ length states → n ≤ length flags → FishWritten (state_byte T sites fish) (length sites) (length fish) states states' → FishWritten (flag_byte T sites fish) (length sites) (length fish) flags flags' → panel_of (Ok n) states' flags' ≡ after_check L T sites fish states flags
     all_done n states' flags' e h k u v = sym
         (by_answer done (all_there L T sites fish (room_then states flags (length cells)) all.sites_there all.fish_known ∙ enough_room cells states flags (length cells) (omega (arith, need)) (omega (arith, need)))
         ∙ end_done cells states flags

@@ -1,7 +1,7 @@
 // The bytes of all fish at all sites: what is the same for all of them is filled in once.
 ghost use Rattle.std.specs.Prelude.{◌≡◌, ℕ, ◌*◌, ◌≤◌, length};
 ghost use Rattle.meaning.specs.Words.{at};
-ghost use Rattle.meaning.specs.Rows.{age_table, edge_table, site_table, mutation_table, tables};
+ghost use Rattle.meaning.specs.Columns.{tables_in};
 ghost use Rattle.order.specs.Ranks.{Ranked};
 ghost use Rattle.alleles.specs.Reading.{Readable};
 ghost use Rattle.carrying.specs.Work.{index_by, Prepared};
@@ -11,23 +11,17 @@ ghost use Rattle.panel.specs.Rows.{state_byte, flag_byte};
 ghost use Rattle.panel.specs.Whole.{SitesNamed};
 
 use crate::portions;
-use crate::portions::Trail;
+use carrying::Filled;
+use carrying::kids::Kids;
+use carrying::spans::SpanColumns;
+use meaning::columns::Tables;
 use meaning::{NodeTable, SiteTable};
+use overtaking::known::Kept;
 
 // Fills in what is the same for all sites: the ends of each row's edges by child, and where a parent's edges and a site's mutations lie.
 fn prepare(
     len: u32,
-    time: &[u32],
-    birth: &[u32],
-    left: &[u32],
-    right: &[u32],
-    parent: &[u32],
-    child: &[u32],
-    position: &[u32],
-    ancestral: &[u8],
-    site: &[u32],
-    node: &[u32],
-    derived: &[u8],
+    tables: Tables,
     by_child: &[u32],
     ends: &mut [u32],
     edge_first: &mut [u32],
@@ -35,15 +29,10 @@ fn prepare(
     mut_first: &mut [u32],
     mut_past: &mut [u32],
 )
-    requires { Readable len
-        (tables
-        (age_table time.now birth.now)
-        (edge_table left.now right.now parent.now child.now)
-        (site_table position.now ancestral.now)
-        (mutation_table site.now node.now derived.now)) by_child.now ×
-        SitesNamed (length position.now) site.now ×
-        (length position.now ≤ 512) ×
-        (length site.now ≤ 1024) ×
+    requires { Readable len (tables_in tables) by_child.now ×
+        SitesNamed (length tables.sites.position.now) tables.mutations.site.now ×
+        (length tables.sites.position.now ≤ 512) ×
+        (length tables.mutations.site.now ≤ 1024) ×
         (length ends.old ≡ 1024) ×
         (length edge_first.old ≡ 1024) ×
         (length edge_past.old ≡ 1024) ×
@@ -51,33 +40,18 @@ fn prepare(
         (length mut_past.old ≡ 512) ×
         ((v : ℕ) → at edge_past.old v ≡ 0) ×
         ((v : ℕ) → at mut_past.old v ≡ 0) }
-    ensures { Prepared len
-        (tables
-        (age_table time.now birth.now)
-        (edge_table left.now right.now parent.now child.now)
-        (site_table position.now ancestral.now)
-        (mutation_table site.now node.now derived.now)) by_child.now
+    ensures { Prepared len (tables_in tables.entry) by_child.now
         (index_by ends.new edge_first.new edge_past.new mut_first.new mut_past.new) }
 {
-    ancestry::index::fill_ends(left, right, parent, child, by_child, ends);
-    carrying::fill_spans(parent, edge_first, edge_past);
-    carrying::fill_spans(site, mut_first, mut_past);
+    ancestry::index::fill_ends(tables.edges, by_child, ends);
+    carrying::spans::fill(tables.edges.parent, edge_first, edge_past);
+    carrying::spans::fill(tables.mutations.site, mut_first, mut_past);
 }
 
 // Both blocks, of lists that name known fish and sites, and that fit.
 pub fn fill_blocks(
     len: u32,
-    time: &[u32],
-    birth: &[u32],
-    left: &[u32],
-    right: &[u32],
-    parent: &[u32],
-    child: &[u32],
-    position: &[u32],
-    ancestral: &[u8],
-    site: &[u32],
-    node: &[u32],
-    derived: &[u8],
+    tables: Tables,
     by_child: &[u32],
     by_birth: &[u32],
     sites: &[u32],
@@ -85,38 +59,23 @@ pub fn fill_blocks(
     states: &mut [u8],
     flags: &mut [u8],
 )
-    requires { Readable len
-        (tables
-        (age_table time.now birth.now)
-        (edge_table left.now right.now parent.now child.now)
-        (site_table position.now ancestral.now)
-        (mutation_table site.now node.now derived.now)) by_child.now ×
-        SitesNamed (length position.now) site.now ×
-        (length position.now ≤ 512) ×
-        (length site.now ≤ 1024) ×
-        Ranked birth.now by_birth.now ×
-        AllThere (length position.now) birth.now sites.now fish.now ×
+    requires { Readable len (tables_in tables) by_child.now ×
+        SitesNamed (length tables.sites.position.now) tables.mutations.site.now ×
+        (length tables.sites.position.now ≤ 512) ×
+        (length tables.mutations.site.now ≤ 1024) ×
+        Ranked tables.ages.birth.now by_birth.now ×
+        AllThere (length tables.sites.position.now) tables.ages.birth.now sites.now fish.now ×
         (length fish.now * length sites.now ≤ length states.old) ×
         (length fish.now * length sites.now ≤ length flags.old) }
-    ensures { FishWritten (state_byte
-        (tables
-        (age_table time.now birth.now)
-        (edge_table left.now right.now parent.now child.now)
-        (site_table position.now ancestral.now)
-        (mutation_table site.now node.now derived.now)) sites.now fish.now) (length sites.now) (length fish.now) states.old states.new ×
-        FishWritten (flag_byte
-        (tables
-        (age_table time.now birth.now)
-        (edge_table left.now right.now parent.now child.now)
-        (site_table position.now ancestral.now)
-        (mutation_table site.now node.now derived.now)) sites.now fish.now) (length sites.now) (length fish.now) flags.old flags.new }
+    ensures { FishWritten (state_byte (tables_in tables.entry) sites.now fish.now) (length sites.now) (length fish.now) states.old states.new ×
+        FishWritten (flag_byte (tables_in tables.entry) sites.now fish.now) (length sites.now) (length fish.now) flags.old flags.new }
 {
     let mut ends = [0u32; NodeTable::MOST];
     let mut edge_first = [0u32; NodeTable::MOST];
     let mut edge_past = [0u32; NodeTable::MOST];
     let mut mut_first = [0u32; SiteTable::MOST];
     let mut mut_past = [0u32; SiteTable::MOST];
-    let mut rows = [0u32; Trail::FISH];
+    let mut rows = [0u32; portions::FISH];
     let mut par = [0u32; NodeTable::MOST];
     let mut until = [0u32; NodeTable::MOST];
     let mut kid = [0u8; NodeTable::MOST];
@@ -124,21 +83,11 @@ pub fn fill_blocks(
     let mut own = [0u32; NodeTable::MOST];
     let mut told = [0u32; NodeTable::MOST];
     let mut state = [0u8; NodeTable::MOST];
-    let mut column = [0u8; Trail::FISH];
-    let mut gaps = [0u8; Trail::FISH];
+    let mut column = [0u8; portions::FISH];
+    let mut gaps = [0u8; portions::FISH];
     prepare(
         len,
-        time,
-        birth,
-        left,
-        right,
-        parent,
-        child,
-        position,
-        ancestral,
-        site,
-        node,
-        derived,
+        tables,
         by_child,
         &mut ends,
         &mut edge_first,
@@ -146,33 +95,36 @@ pub fn fill_blocks(
         &mut mut_first,
         &mut mut_past,
     );
-    portions::fill_fish(
+    let filled = Filled {
         len,
-        time,
-        birth,
-        left,
-        right,
-        parent,
-        child,
-        position,
-        ancestral,
-        site,
-        node,
-        derived,
+        tables,
         by_child,
+        ends: &ends,
+        parents: SpanColumns {
+            first: &edge_first,
+            past: &edge_past,
+        },
+        muts: SpanColumns {
+            first: &mut_first,
+            past: &mut_past,
+        },
+    };
+    let mut kept = Kept {
+        par: &mut par,
+        until: &mut until,
+    };
+    let mut kids = Kids {
+        has: &mut kid,
+        until: &mut kid_until,
+    };
+    portions::fill_fish(
+        filled,
         by_birth,
-        &ends,
-        &edge_first,
-        &edge_past,
-        &mut_first,
-        &mut_past,
         sites,
         fish,
         &mut rows,
-        &mut par,
-        &mut until,
-        &mut kid,
-        &mut kid_until,
+        &mut kept,
+        &mut kids,
         &mut own,
         &mut told,
         &mut state,

@@ -3,9 +3,8 @@
 
 #![tactic(auto)]
 
-ghost use Rattle.std.specs.Prelude.{◌≡◌, ℕ, ◌<◌, ◌≤◌, length};
-ghost use Rattle.meaning.specs.Words.{at};
-ghost use Rattle.meaning.specs.Rows.{age_table, node_table, edge_table, site_table, mutation_table, tables};
+ghost use Rattle.std.specs.Prelude.{◌≡◌, ◌≤◌, length};
+ghost use Rattle.meaning.specs.Columns.{tables_in, lent_in};
 ghost use Rattle.meaning.specs.Answer.{limits};
 ghost use Rattle.meaning.specs.Panel.{panel_of, panel};
 ghost use Rattle.order.specs.Ranks.{Ranked};
@@ -16,22 +15,13 @@ mod fill; // the bytes of all fish at all sites
 mod portions; // so many fish at a time, told at each site
 
 use blocks::{block, lists};
+use meaning::columns::{Lent, Tables};
 use meaning::{Bytes, Refusal};
 
 // The panel of tables that the check does not refuse, with the orders that it leaves.
 fn panel_sound(
     len: u32,
-    time: &[u32],
-    birth: &[u32],
-    left: &[u32],
-    right: &[u32],
-    parent: &[u32],
-    child: &[u32],
-    position: &[u32],
-    ancestral: &[u8],
-    site: &[u32],
-    node: &[u32],
-    derived: &[u8],
+    tables: Tables,
     by_child: &[u32],
     by_birth: &[u32],
     sites: &[u32],
@@ -39,23 +29,13 @@ fn panel_sound(
     states: &mut [u8],
     flags: &mut [u8],
 ) -> Result<usize, Refusal>
-    requires { Readable len
-        (tables
-        (age_table time.now birth.now)
-        (edge_table left.now right.now parent.now child.now)
-        (site_table position.now ancestral.now)
-        (mutation_table site.now node.now derived.now)) by_child.now ×
-        SitesNamed (length position.now) site.now ×
-        (length position.now ≤ 512) ×
-        (length site.now ≤ 1024) ×
-        Ranked birth.now by_birth.now }
+    requires { Readable len (tables_in tables) by_child.now ×
+        SitesNamed (length tables.sites.position.now) tables.mutations.site.now ×
+        (length tables.sites.position.now ≤ 512) ×
+        (length tables.mutations.site.now ≤ 1024) ×
+        Ranked tables.ages.birth.now by_birth.now }
     ensures { panel_of result states.new flags.new
-        ≡ after_check len
-        (tables
-        (age_table time.now birth.now)
-        (edge_table left.now right.now parent.now child.now)
-        (site_table position.now ancestral.now)
-        (mutation_table site.now node.now derived.now)) sites.now fish.now states.old flags.old }
+        ≡ after_check len (tables_in tables.entry) sites.now fish.now states.old flags.old }
 {
     if sites.len() == 0 {
         return Ok(0);
@@ -63,36 +43,24 @@ fn panel_sound(
     if fish.len() == 0 {
         return Ok(0);
     }
-    lists::first_refused(birth, by_birth, position.len(), sites, fish) {
-        Err(r) => Err(r),
-        Ok(()) => {
-            if !block::both_have_room(fish.len(), sites.len(), states.len(), flags.len()) {
-                return Err(Refusal::NoRoom(Bytes::NUMBER));
-            }
-            fill::fill_blocks(
-                len, time, birth, left, right, parent, child, position, ancestral, site, node,
-                derived, by_child, by_birth, sites, fish, states, flags,
-            );
-            Ok(fish.len() * sites.len())
-        }
+    lists::first_refused(
+        tables.ages.birth,
+        by_birth,
+        tables.sites.position.len(),
+        sites,
+        fish,
+    )?;
+    if !block::both_have_room(fish.len(), sites.len(), states.len(), flags.len()) {
+        return Err(Refusal::NoRoom(Bytes::NUMBER));
     }
+    fill::fill_blocks(len, tables, by_child, by_birth, sites, fish, states, flags);
+    Ok(fish.len() * sites.len())
 }
 
 // The check of the tables, which leaves the edges by child and the nodes by birth in lent columns, and then the panel.
 fn panel_lent(
     len: u32,
-    time: &[u32],
-    birth: &[u32],
-    population: &[u16],
-    left: &[u32],
-    right: &[u32],
-    parent: &[u32],
-    child: &[u32],
-    position: &[u32],
-    ancestral: &[u8],
-    site: &[u32],
-    node: &[u32],
-    derived: &[u8],
+    lent: Lent,
     by_child: &mut [u32],
     by_birth: &mut [u32],
     sites: &[u32],
@@ -102,32 +70,14 @@ fn panel_lent(
 ) -> Result<usize, Refusal>
     requires { (length by_child.old ≡ 4096) × (length by_birth.old ≡ 1024) }
     ensures { panel_of result states.new flags.new
-        ≡ panel limits len
-        (tables
-        (node_table time.now birth.now population.now)
-        (edge_table left.now right.now parent.now child.now)
-        (site_table position.now ancestral.now)
-        (mutation_table site.now node.now derived.now)) sites.now fish.now states.old flags.old }
+        ≡ panel limits len (lent_in lent.entry) sites.now fish.now states.old flags.old }
 {
-    let n = left.len();
-    let m = birth.len();
-    match checker::check_lent(
-        len, time, birth, population, left, right, parent, child, position, ancestral, site, node,
-        derived, by_child, by_birth,
-    )?;
+    let n = lent.left.len();
+    let m = lent.birth.len();
+    checker::check_lent(len, lent, by_child, by_birth)?;
     panel_sound(
         len,
-        time,
-        birth,
-        left,
-        right,
-        parent,
-        child,
-        position,
-        ancestral,
-        site,
-        node,
-        derived,
+        alleles::evened(lent),
         &by_child[..n],
         &by_birth[..m],
         sites,
@@ -137,50 +87,24 @@ fn panel_lent(
     )
 }
 
-// M-100's call: the state of each fish of a list at each site of a list, and, in the second block, 1 where it is missing there.
+// M-100's call: the state of each fish of a list at each site of a list, and, in the second block, 1 where it is missing there. The two
+// blocks are lent apart, as the C interface has them.
 pub fn alleles(
     len: u32,
-    time: &[u32],
-    birth: &[u32],
-    population: &[u16],
-    left: &[u32],
-    right: &[u32],
-    parent: &[u32],
-    child: &[u32],
-    position: &[u32],
-    ancestral: &[u8],
-    site: &[u32],
-    node: &[u32],
-    derived: &[u8],
+    lent: Lent,
     sites: &[u32],
     fish: &[u32],
     states: &mut [u8],
     flags: &mut [u8],
 ) -> Result<usize, Refusal>
     ensures { panel_of result states.new flags.new
-        ≡ panel limits len
-        (tables
-        (node_table time.now birth.now population.now)
-        (edge_table left.now right.now parent.now child.now)
-        (site_table position.now ancestral.now)
-        (mutation_table site.now node.now derived.now)) sites.now fish.now states.old flags.old }
+        ≡ panel limits len (lent_in lent.entry) sites.now fish.now states.old flags.old }
 {
     let mut by_child = [0u32; meaning::EdgeTable::MOST];
     let mut by_birth = [0u32; meaning::NodeTable::MOST];
     panel_lent(
         len,
-        time,
-        birth,
-        population,
-        left,
-        right,
-        parent,
-        child,
-        position,
-        ancestral,
-        site,
-        node,
-        derived,
+        lent,
         &mut by_child,
         &mut by_birth,
         sites,

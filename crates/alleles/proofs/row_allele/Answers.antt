@@ -10,7 +10,7 @@ marks_at-requires c = let p : _ = c.requires in
 
 pub is_missing-requires : goal.is_missing-requires
 is_missing-requires c = let p : _ = c.requires in
-    (climbs _ _ _ p.0 _ 1024 p.1 p.0.few _ _ c.marks_at.ensures.0 c.marks_at.ensures.1 _ c.fill_ends.auto.ends c.fill_ends.ensures _ p.2).0
+    (climbs _ _ _ p.0 _ 1024 p.1 p.0.few _ _ c.marks_at.ensures.0 c.marks_at.ensures.1 _ c.fill_ends.auto.ends _ p.2).0
 
 pub returns-then-is_missing : goal.returns-then-is_missing
 returns-then-is_missing c = let p : _ = c.requires in
@@ -18,7 +18,7 @@ returns-then-is_missing c = let p : _ = c.requires in
 
 pub carried-requires : goal.carried-requires
 carried-requires c = let p : _ = c.requires in
-    climbs _ _ _ p.0 _ 1024 p.1 p.0.few _ _ c.marks_at.ensures.0 c.marks_at.ensures.1 _ c.fill_ends.auto.ends c.fill_ends.ensures _ p.2
+    climbs _ _ _ p.0 _ 1024 p.1 p.0.few _ _ c.marks_at.ensures.0 c.marks_at.ensures.1 _ c.fill_ends.auto.ends _ p.2
 
 pub returns : goal.returns
 returns c = let p : _ = c.requires in

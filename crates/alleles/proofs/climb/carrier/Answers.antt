@@ -8,11 +8,11 @@ loop-r-init c = begin c.requires _
 pub up-requires : goal.up-requires
 up-requires c = (c.loop-r.invariant.climb, c.loop-r.invariant.inside)
 
-pub returns-in-Done : goal.returns-in-Done
-returns-in-Done c = told_done c.loop-r.invariant c.up.result c.up.ensures c.in-Done.is
+pub returns-in-Break : goal.returns-in-Break
+returns-in-Break c = told_done c.loop-r.invariant c.up.result c.up.ensures c.in-Break.is
 
 pub loop-r-smaller : goal.loop-r-smaller
-loop-r-smaller c = (told_from c.loop-r.invariant c.up.result c.up.ensures c.in-From.is).fewer
+loop-r-smaller c = (told_from c.loop-r.invariant c.up.result c.up.ensures c.in-Continue.is).fewer
 
 pub loop-r-preserved : goal.loop-r-preserved
-loop-r-preserved c = go_on c.loop-r.invariant c.up.result c.up.ensures c.in-From.is
+loop-r-preserved c = go_on c.loop-r.invariant c.up.result c.up.ensures c.in-Continue.is

@@ -1,5 +1,4 @@
 -- `block::scatter` meets its contract: one cell after another, each in a row of its own.
-use Prim.Native.Nat.{◌-◌}
 use native.Mathlib.Omega.{arith}
 use Rattle.blocks.proofs.Scattering.{none_scattered, one_more, all_scattered, cell_inside, row_inside}
 use Rattle.blocks.proofs.block.scatter.Goals as goal

@@ -1,7 +1,8 @@
 -- `fill::fill_blocks` meets its contract: the columns of the call filled in, then fish by fish.
 use mathlib.Core.Path.{refl}
 use native.Mathlib.Omega.{arith}
-use Rattle.panel.proofs.Calling.{cleared, nothing_kept}
+use Rattle.carrying.proofs.Beginning.{cleared}
+use Rattle.panel.proofs.Calling.{nothing_kept}
 use Rattle.panel.proofs.fill.fill_blocks.Goals as goal
 
 pub prepare-requires : goal.prepare-requires

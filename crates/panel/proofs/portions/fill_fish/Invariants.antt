@@ -1,15 +1,19 @@
 -- `portions::fill_fish` meets its contract: portion after portion, each found and told.
+use mathlib.Core.Path.{◌≡◌}
 use Prim.Native.Nat.{◌-◌}
 use lib.ListN.{length}
-use Rattle.meaning.specs.Rows.{age_table, edge_table, site_table, mutation_table, tables}
-use Rattle.carrying.specs.Work.{work_of}
+use Rattle.meaning.specs.Columns.{tables_in}
+use Rattle.carrying.specs.Lent.{work_in}
 use Rattle.panel.proofs.Taking.{Taken}
 use Rattle.panel.proofs.portions.fill_fish.Given as goal
 
 abbrev pub invariant-loop-base : goal.invariant-loop-base
-invariant-loop-base l = Taken (tables (age_table l.time l.birth) (edge_table l.left l.right l.parent l.child) (site_table l.position l.ancestral) (mutation_table l.site l.node l.derived)) l.sites l.fish
-    (work_of l.initial.par l.initial.until l.initial.kid l.initial.kid_until l.initial.own l.initial.told l.initial.state) l.initial.rows l.initial.column l.initial.gaps l.initial.states l.initial.flags
-    (work_of l.par l.until l.kid l.kid_until l.own l.told l.state) l.rows l.column l.gaps l.states l.flags l.last l.stamp l.base
+invariant-loop-base l = record {
+  own_long : length l.own ≡ length l.initial.own;
+  told_long : length l.told ≡ length l.initial.told;
+  state_long : length l.state ≡ length l.initial.state;
+  taken : Taken (tables_in l.filled.tables) l.sites l.fish l.initial.rows l.initial.column l.initial.gaps l.initial.states l.initial.flags (work_in l.kept l.kids l.own l.told l.state) l.rows l.column l.gaps l.states l.flags l.trail.last l.trail.stamp l.base;
+}
 
 abbrev pub decreases-loop-base : goal.decreases-loop-base
 decreases-loop-base l = length l.fish - l.base
