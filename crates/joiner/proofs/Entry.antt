@@ -12,9 +12,9 @@ use Rattle.std.specs.Prelude.{Ok, Err}
 use Rattle.meaning.specs.Words.{lowest}
 use Rattle.meaning.specs.Rows.{Tables}
 use Rattle.meaning.specs.Answer.{Answer, answer, done, limits, refuse, refuse_row, accepted, refusal_of, checked_of}
-use Rattle.meaning.specs.Lent.{no_rows_written, fit_then, block_then, counts_by, cells_by}
+use Rattle.meaning.specs.Lent.{Tabled, no_rows_written, fit_then, block_then, counts_by, cells_by}
 use Rattle.meaning.specs.Check.{check_then}
-use Rattle.meaning.specs.Join.{BatchTables, JoinOutcome, join_end, join_fit, batch_then, joined, batch_shapes, batch_sizes, batch_rules, joining}
+use Rattle.meaning.specs.Join.{BatchTables, JoinOutcome, joined_of, join_end, join_fit, batch_then, joined, batch_shapes, batch_sizes, batch_rules, joining}
 use Rattle.accepted.specs.Refusals.{of_done}
 use Rattle.accepted.specs.Endings.{join_refused}
 use Rattle.accepted.specs.Rooms.{Fits, fits_of}
@@ -154,8 +154,8 @@ module _ (L : ℕ) (T : Tables) (B : BatchTables) (c : Checked) (e : checked_of 
       record { sound = s.0; batch = (batch_sound_of limits L T B done s.1).0 }
 
   module _ (out : Tables) (cells : ℕ) where
-    pub call_refused : (r : Refusal) → c ≡ Err r → ◌≡◌ {A = JoinOutcome} (record { answer = refusal_of r; counts = no_rows_written; cells = out }) (joining limits L T B out cells)
-    call_refused r q = sym (
+    pub call_refused : (r : Refusal) → c ≡ Err r → (o : Tabled) → o ≡ Err r → joined_of o out ≡ joining limits L T B out cells
+    call_refused r q o p = ap (λ (x : Tabled). joined_of x out) p ∙ sym (
         joining_by L T B out cells (refusal_of r) (sym (stops (batch_then limits L T B) hand c found r q (join_fit limits (joined L T B) out cells)) ∙ ap checked_of q)
         ∙ join_refused (refusal_of r) (refused r) (joined L T B) out
         )

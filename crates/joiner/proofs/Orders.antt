@@ -9,7 +9,7 @@ use Rattle.meaning.specs.Answer.{limits, accepted, checked_of}
 use Rattle.meaning.specs.Join.{BatchTables}
 use Rattle.meaning.specs.declared.Refusal.{Refusal}
 use Rattle.meaning.specs.Answer.{Checked}
-use Rattle.std.specs.Prelude.{Ok, Err}
+use Rattle.std.specs.Prelude.{Err}
 use Rattle.laws.specs.Bools.{clash}
 use Rattle.order.specs.Ranks.{Ranked}
 use Rattle.checker.specs.Found.{TablesSound}
