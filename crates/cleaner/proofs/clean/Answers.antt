@@ -1,5 +1,9 @@
 -- `cleaner::clean` meets its contract: the check's refusal, or the cleaning of sound tables.
-use mathlib.Core.Path.{sym, ◌∙◌}
+use Rattle.std.proofs.Common.{sym, ap, ◌∙◌}
+use Rattle.laws.specs.Passing.{passed_on}
+use Rattle.meaning.specs.Lent.{Tabled}
+use Rattle.meaning.specs.Rows.{node_table, edge_table, site_table, mutation_table, tables}
+use Rattle.meaning.specs.Clean.{outcome_of}
 use Prim.Native.Nat.{ℕ}
 use lib.ListN.{length-replicate}
 use Rattle.cleaner.proofs.Calling.{grounded, births_room, call_refused, call_done}
@@ -13,16 +17,18 @@ pub slice_bounds-clean_sound-end : goal.slice_bounds-clean_sound-end
 slice_bounds-clean_sound-end c = sym (c.check_all_lent.auto.by_child ∙ length-replicate {A = ℕ} 4096 0)
 
 pub slice_bounds-by_birth-end : goal.slice_bounds-by_birth-end
-slice_bounds-by_birth-end c = births_room _ _ _ _ c.check_all_lent.ensures.0 c.in-Sound.is c.check_all_lent.new.by_birth _ (length-replicate {A = ℕ} 1024 0) c.check_all_lent.auto.by_birth
+slice_bounds-by_birth-end c = births_room _ _ _ _ c.check_all_lent.ensures.0 c.in_ok-check_all_lent.was c.check_all_lent.new.by_birth _ (length-replicate {A = ℕ} 1024 0) c.check_all_lent.auto.by_birth
 
-pub slice_bounds-clean_sound-end-in-Sound : goal.slice_bounds-clean_sound-end-in-Sound
-slice_bounds-clean_sound-end-in-Sound c = sym (c.check_all_lent.ensures.1.births c.in-Sound.is).long
+pub slice_bounds-clean_sound-end-2 : goal.slice_bounds-clean_sound-end-2
+slice_bounds-clean_sound-end-2 c = sym (c.check_all_lent.ensures.1.births c.in_ok-check_all_lent.was).long
 
 pub clean_sound-requires : goal.clean_sound-requires
-clean_sound-requires c = (grounded _ _ _ _ c.check_all_lent.ensures.0 c.in-Sound.is (λ i l. omega (arith, c.type_inv.time i)), c.check_all_lent.ensures.1.births c.in-Sound.is, c.check_all_lent.auto.by_child ∙ length-replicate {A = ℕ} 4096 0)
+clean_sound-requires c = (grounded _ _ _ _ c.check_all_lent.ensures.0 c.in_ok-check_all_lent.was (λ i l. omega (arith, c.type_inv.time i)), c.check_all_lent.ensures.1.births c.in_ok-check_all_lent.was, c.check_all_lent.auto.by_child ∙ length-replicate {A = ℕ} 4096 0)
 
-pub returns-in-Refused : goal.returns-in-Refused
-returns-in-Refused c = call_refused _ _ _ _ c.check_all_lent.ensures.0 _ _ _ _ c.in-Refused.is
+pub returns-in_err-check_all_lent : goal.returns-in_err-check_all_lent
+returns-in_err-check_all_lent c =
+    let out : _ = (tables (node_table c.args.out_time.now c.args.out_birth.now c.args.out_population.now) (edge_table c.args.out_left.now c.args.out_right.now c.args.out_parent.now c.args.out_child.now) (site_table c.args.out_position.now c.args.out_ancestral.now) (mutation_table c.args.out_site.now c.args.out_node.now c.args.out_derived.now)) in
+    ap (λ (a : Tabled). outcome_of a out c.args.out_map.now) (passed_on c.from_residual.ensures.1) ∙ call_refused _ _ _ _ c.check_all_lent.ensures.0 out c.args.out_map.now c.args.cells _ c.in_err-check_all_lent.was
 
 pub shape_of-out_time : goal.shape_of-out_time
 shape_of-out_time c = c.clean_sound.auto.out_time
@@ -63,5 +69,5 @@ shape_of-out_derived c = c.clean_sound.auto.out_derived
 pub shape_of-out_map : goal.shape_of-out_map
 shape_of-out_map c = c.clean_sound.auto.out_map
 
-pub returns-in-Sound : goal.returns-in-Sound
-returns-in-Sound c = call_done _ _ _ _ c.check_all_lent.ensures.0 _ _ _ c.in-Sound.is _ c.clean_sound.ensures
+pub returns : goal.returns
+returns c = call_done _ _ _ _ c.check_all_lent.ensures.0 _ _ _ c.in_ok-check_all_lent.was _ c.clean_sound.ensures
