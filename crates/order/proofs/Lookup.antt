@@ -1,17 +1,20 @@
 -- A number looked up: among ranked rows by halving, and by a search through all rows.
-use mathlib.Core.Path.{◌≡◌, sym, ap, ◌∙◌}
+use mathlib.Core.Path.{◌≡◌, sym, ap}
 use mathlib.Core.Bool.{true}
 use mathlib.Core.List.{List}
 use mathlib.Core.Logic.{⊎_elim}
 use Prim.Native.Nat.{ℕ, ◌+◌, ◌<◌, ◌≤◌}
 use native.Mathlib.Omega.{arith}
 use lib.ListN.{length}
-use Rattle.meaning.specs.Words.{at, mem, index_of}
+use Rattle.std.specs.Option.{MatchOption}
+use Rattle.std.specs.List.{AllWithin, HoldsAt}
+use Rattle.std.proofs.Common.{Option, Some, None}
+use Rattle.meaning.specs.Words.{at, mem, index_of, place_in}
 use Rattle.laws.specs.Bools.{eq?, not_true}
 use Rattle.laws.specs.Members.{at_mem, index_at, index_below}
 use Rattle.order.specs.Lex.{trichotomy}
 use Rattle.order.specs.Dealing.{step_below}
-use Rattle.order.specs.Ranks.{Ranked, Placed, index_first, index_none}
+use Rattle.order.specs.Ranks.{Ranked, Placed, index_first, index_none, place_some, place_none}
 
 -- before low stand smaller numbers, from high on none that is smaller
 pub record Ringed (l idx : List ℕ) (b low high : ℕ) : Type 0 where
@@ -52,18 +55,20 @@ module _ (l idx : List ℕ) (b : ℕ) (r : Ranked l idx) where
     pub ringed_end : high ≤ low → Placed l idx b low
     ringed_end h = record { inside = omega (arith, w.apart, w.inside); under = w.under; over = λ p g k. w.over p (omega arith) k }
 
--- ---- a search through all rows: none of the rows passed has the number
+-- ---- a search through all rows: none of the rows before its answer has the number
 
-module _ (l : List ℕ) (b i : ℕ) (w : (j : ℕ) → j < i → at l j ≡ b → ⊥) where
-  pub searched_next : (b ≡ at l i → ⊥) → (j : ℕ) → j < i + 1 → at l j ≡ b → ⊥
-  searched_next n j h e = ⊎_elim (λ (q : j ≡ i). n (sym e ∙ ap (at l) q)) (λ (m : j ≡ i → ⊥). w j (step_below j i (omega arith) m) e) (eq? j i)
-
-  pub searched_hit : i < length l → b ≡ at l i → i ≡ index_of b l
-  searched_hit h e =
-      let there : mem b l ≡ true = rw (sym e) at (at_mem l i h) in
+module _ (l : List ℕ) (b : ℕ) where
+  found_hit : (i : ℕ) → i < length l → at l i ≡ b → ((j : ℕ) → j < i → at l j ≡ b → ⊥) → i ≡ index_of b l
+  found_hit i h e w =
+      let there : mem b l ≡ true = rw e at (at_mem l i h) in
       ⊎_elim (λ (q : i ≡ index_of b l). q)
-      (λ (n : i ≡ index_of b l → ⊥). absurd (w (index_of b l) (step_below (index_of b l) i (omega (arith, index_first b l i h (sym e))) (λ q. n (sym q))) (index_at b l there)))
+      (λ (n : i ≡ index_of b l → ⊥). absurd (w (index_of b l) (step_below (index_of b l) i (omega (arith, index_first b l i h e)) (λ q. n (sym q))) (index_at b l there)))
       (eq? i (index_of b l))
 
-  pub searched_none : length l ≤ i → length l ≡ index_of b l
-  searched_none h = sym (index_none b l (not_true (mem b l) (λ e. w (index_of b l) (omega (arith, index_below b l e)) (index_at b l e))))
+  found_none : ((j : ℕ) → j < length l → at l j ≡ b → ⊥) → length l ≡ index_of b l
+  found_none w = sym (index_none b l (not_true (mem b l) (λ e. w (index_of b l) (omega (arith, index_below b l e)) (index_at b l e))))
+
+  -- what `position` answers is the place
+  pub found_place : (r : Option ℕ) → MatchOption r (AllWithin (λ x. x ≡ b → ⊥) l 0 (length l)) (λ i. (i < length l) × HoldsAt (λ x. x ≡ b) l i × AllWithin (λ x. x ≡ b → ⊥) l 0 i) → r ≡ place_in b l
+  found_place None w = place_none b l (found_none (λ j h. w j 0 (omega arith) h))
+  found_place (Some i) w = place_some b l i w.0 (found_hit i w.0 (w.1 0) (λ j h. w.2 j 0 (omega arith) h))

@@ -7,6 +7,7 @@ pub mod Laws
 pub mod Mapped
 pub mod Tables
 pub mod Digits
+pub mod Which
 pub mod Deals
 pub mod Dealing
 pub mod Stable

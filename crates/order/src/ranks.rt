@@ -1,6 +1,6 @@
 // The rows of a column by their numbers: made once, and a number is then found by halving.
 ghost use Rattle.std.specs.Prelude.{◌≡◌, ◌<◌, ◌≤◌, length};
-ghost use Rattle.meaning.specs.Words.{mem, index_of};
+ghost use Rattle.meaning.specs.Words.{mem, place_in};
 ghost use Rattle.order.specs.Ranks.{Ranked, Helps, Placed};
 
 use crate::Spare;
@@ -53,6 +53,7 @@ fn place_of(l: &[u32], idx: &[u32], b: u32) -> usize
 {
     let mut low = 0;
     let mut high = idx.len();
+    // the range is halved, no place is counted
     while low < high {
         let m = middle(low, high);
         if l[crate::wide(idx[m])] < b {
@@ -64,40 +65,33 @@ fn place_of(l: &[u32], idx: &[u32], b: u32) -> usize
     low
 }
 
-// The lowest row with the number b, or the number of rows where no row has it, by halving.
-fn halved(l: &[u32], idx: &[u32], b: u32) -> usize
+// The lowest row with the number b, by halving.
+fn halved(l: &[u32], idx: &[u32], b: u32) -> Option<usize>
     requires { Ranked l.now idx.now }
-    ensures { result ≡ index_of b l.now }
+    ensures { result ≡ place_in b l.now }
 {
     let p = place_of(l, idx, b);
     if idx.len() <= p {
-        return l.len();
+        return None;
     }
     let r = crate::wide(idx[p]);
-    if l[r] == b {
-        return r;
+    if l[r] != b {
+        return None;
     }
-    l.len()
+    Some(r)
 }
 
 // The same by a search through all rows.
-fn searched(l: &[u32], b: u32) -> usize
-    ensures { result ≡ index_of b l.now }
+fn searched(l: &[u32], b: u32) -> Option<usize>
+    ensures { result ≡ place_in b l.now }
 {
-    let mut i = 0;
-    while i < l.len() {
-        if b == l[i] {
-            return i;
-        }
-        i += 1;
-    }
-    l.len()
+    l.iter().position(|x| *x == b)
 }
 
-// The lowest row with the number b, or the number of rows where no row has it: by halving where idx has the rows in order.
-pub fn row_of(l: &[u32], idx: &[u32], b: u32) -> usize
+// The lowest row with the number b: by halving where idx has the rows in order.
+pub fn row_of(l: &[u32], idx: &[u32], b: u32) -> Option<usize>
     requires { Helps l.now idx.now }
-    ensures { result ≡ index_of b l.now }
+    ensures { result ≡ place_in b l.now }
 {
     if idx.len() == l.len() {
         return halved(l, idx, b);
@@ -110,5 +104,5 @@ pub fn known(l: &[u32], idx: &[u32], b: u32) -> bool
     requires { Helps l.now idx.now }
     ensures { result ≡ mem b l.now }
 {
-    row_of(l, idx, b) < l.len()
+    row_of(l, idx, b).is_some()
 }

@@ -1,5 +1,4 @@
 -- place_of meets its contract. Invariant: before low stand smaller numbers, from high on none that is smaller. Measure: the range.
-use Prim.Native.Nat.{◌-◌}
 use Rattle.order.proofs.Lookup.{ringed_start, ringed_up, ringed_down, ringed_end}
 use native.Mathlib.Omega.{arith}
 use Rattle.order.proofs.ranks.place_of.Goals as goal
