@@ -7,11 +7,13 @@ use native.Mathlib.Omega.{arith}
 use lib.ListN.{length}
 use borrow.Author.Tests.{lt-ltb, le-ltb}
 use Rattle.meaning.specs.Words.{at}
+use Rattle.meaning.specs.Rows.{EdgeColumns}
+use Rattle.meaning.specs.Even.{EvenEdges}
 use Rattle.laws.specs.Bools.{eq?}
 use Rattle.bridge.specs.Parents.{no_row}
 use Rattle.ancestry.specs.Index.{begins}
 use Rattle.ancestry.specs.declared.Stretch.{Stretch}
-use Rattle.ancestry.specs.Lookup.{Lefts, Halved, After, gap_end, none_until, Linked, Chained, Carried}
+use Rattle.ancestry.specs.Lookup.{Lefts, Halved, After, gap_end, none_until, Chained, Carried}
 
 -- ---- the first place
 
@@ -117,12 +119,12 @@ module _ (left right parent by : List ℕ) (p : ℕ) where
       carried_all l m = record { place = j; most = l; chain = ok; stop = λ h t s. absurd (omega arith) }
 
 -- each place is one of the columns'
-module _ (left right parent by : List ℕ) (p high : ℕ) (ok : Linked left right parent by p high) (q : ℕ) (h : p ≤ q) (k : q < high) where
-  pub linked_left : (q < length by) × (at by q < length left)
-  linked_left = (omega (arith, ok.inside), ok.row q h k)
+module _ (E : EdgeColumns) (v : EvenEdges E) (by : List ℕ) (low high : ℕ) (ok : Lefts E.left by low high) (q : ℕ) (h : low ≤ q) (k : q < high) where
+  pub place_left : (q < length by) × (at by q < length E.left)
+  place_left = (omega (arith, ok.inside), ok.row q h k)
 
-  pub linked_right : (q < length by) × (at by q < length right)
-  linked_right = (omega (arith, ok.inside), omega (arith, ok.row q h k, ok.right_long))
+  pub place_right : (q < length by) × (at by q < length E.right)
+  place_right = (omega (arith, ok.inside), omega (arith, ok.row q h k, v.right_long))
 
-  pub linked_parent : (q < length by) × (at by q < length parent)
-  linked_parent = (omega (arith, ok.inside), omega (arith, ok.row q h k, ok.parent_long))
+  pub place_parent : (q < length by) × (at by q < length E.parent)
+  place_parent = (omega (arith, ok.inside), omega (arith, ok.row q h k, v.parent_long))

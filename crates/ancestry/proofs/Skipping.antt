@@ -10,7 +10,7 @@ use Rattle.meaning.specs.Words.{at}
 use Rattle.meaning.specs.Rows.{EdgeColumns}
 use Rattle.laws.specs.Bools.{eq?}
 use Rattle.rules.specs.ByChild.{ByChild}
-use Rattle.rules.specs.Asked.{EvenEdges}
+use Rattle.meaning.specs.Even.{EvenEdges}
 use Rattle.ancestry.specs.Index.{Ends, Grouped, Passed, Skipped, Ending}
 
 -- the order by child has the children in order

@@ -1,8 +1,8 @@
 -- What the lookup asks of nodes and edges, and the measure of every way upwards.
-use Rattle.std.specs.Prelude.{◌≡◌, List, ℕ, ◌<◌, ltb, length}
+use Rattle.std.specs.Prelude.{List, ℕ, ◌<◌, ltb, length}
 use Rattle.meaning.specs.Words.{at, count, rows}
 use Rattle.meaning.specs.Rows.{EdgeColumns}
-use Rattle.rules.specs.Asked.{EvenEdges}
+use Rattle.meaning.specs.Even.{EvenEdges}
 
 -- the number of rows older than row u
 unfoldable pub older : List ℕ → ℕ → ℕ

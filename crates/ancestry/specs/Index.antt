@@ -3,7 +3,7 @@ use Rattle.std.specs.Prelude.{List, ℕ, zero, suc, ◌<◌, ◌≤◌, length}
 use Rattle.meaning.specs.Words.{at}
 use Rattle.meaning.specs.Rows.{EdgeColumns}
 use Rattle.rules.specs.ByChild.{ByChild}
-use Rattle.rules.specs.Asked.{EvenEdges}
+use Rattle.meaning.specs.Even.{EvenEdges}
 
 -- the place after the last edge of row u or of a lower row, for each row u
 pub record Ends (child by ends : List ℕ) : Type 0 where

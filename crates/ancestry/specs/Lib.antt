@@ -3,6 +3,7 @@ pub mod Column
 pub mod Ancestors
 pub mod Older
 pub mod Index
+pub mod Single
 pub mod Stretch
 pub mod Holds
 pub mod Lookup

@@ -43,14 +43,6 @@ gap_end L left by r high = elim (ltb r high) [ true ↦ at left (at by r) | fals
 abbrev pub none_until : ℕ → List ℕ → List ℕ → ℕ → ℕ → Stretch
 none_until L left by r high = record { parent = no_row; end = gap_end L left by r high }
 
--- what is asked of the places to carry on from one to the next
-pub record Linked (left right parent by : List ℕ) (p high : ℕ) : Type 0 where
-  pub inside : high ≤ length by
-  pub first : p < high
-  pub right_long : length right ≡ length left
-  pub parent_long : length parent ≡ length left
-  pub row : (q : ℕ) → p ≤ q → q < high → at by q < length left
-
 -- the edges from place p to j, j left out, touch and have one parent; the last ends at z
 pub record Chained (left right parent by : List ℕ) (p j z : ℕ) : Type 0 where
   pub some : p < j

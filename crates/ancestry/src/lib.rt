@@ -2,6 +2,7 @@
 
 #![tactic(auto)]
 
+pub mod edge_index; // what a parent is looked up in
 pub mod index; // the end of each row's edges among the edges by child
 pub mod lookup; // a row's parent at a position, and how far it holds
 
@@ -12,7 +13,7 @@ pub struct ParentColumn {
 }
 
 impl ParentColumn {
-    // The cell of a row that has no parent: no table is so long.
+    // The cell of a row that has no parent, since a column holds plain numbers: no table is so long.
     pub const NONE: u32 = 4294967295;
 }
 

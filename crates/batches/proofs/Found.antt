@@ -13,7 +13,7 @@ use Rattle.meaning.specs.Answer.{Answer, answer, done, limits, refuse_row}
 use Rattle.meaning.specs.Check.{repeated, edge_shared, mutation_above, overtakes}
 use Rattle.meaning.specs.Join.{BatchTables, batch_birth, batch_edge, batch_mutation, batch_rules, time_in}
 use Rattle.laws.specs.Bools.{or_of, or_no, not_no}
-use Rattle.rules.specs.Asked.{EvenEdges}
+use Rattle.meaning.specs.Even.{EvenEdges}
 use Rattle.rules.specs.Lined.{Somewhere}
 use Rattle.checker.proofs.Rows.{apart}
 use Rattle.checker.proofs.Order.{row_found, row_none, none_found}

@@ -6,7 +6,7 @@ use Rattle.meaning.specs.Answer.{limits}
 use Rattle.meaning.specs.Check.{edge_shared}
 use Rattle.meaning.specs.Join.{BatchTables}
 use Rattle.bridge.specs.Columns.{Apart}
-use Rattle.rules.specs.Asked.{EvenEdges}
+use Rattle.meaning.specs.Even.{EvenEdges}
 use Rattle.ancestry.specs.Column.{Rising}
 use Rattle.ancestry.specs.Index.{Whole}
 use Rattle.overtaking.specs.Overtaken.{Rightwards}

@@ -6,7 +6,7 @@ use Rattle.meaning.specs.Answer.{limits, put}
 use Rattle.meaning.specs.Join.{BatchTables}
 use Rattle.bridge.specs.Columns.{Apart}
 use Rattle.ancestry.specs.Column.{Rising}
-use Rattle.rules.specs.Asked.{EvenEdges}
+use Rattle.meaning.specs.Even.{EvenEdges}
 use Rattle.accepted.specs.Batches.{BatchEdgeRight}
 
 -- the rows of births

@@ -5,7 +5,7 @@ ghost use Rattle.meaning.specs.Rows.{age_table, edge_table};
 ghost use Rattle.meaning.specs.Answer.{limits};
 ghost use Rattle.meaning.specs.Check.{edge_shared};
 ghost use Rattle.meaning.specs.Join.{batch_edge};
-ghost use Rattle.rules.specs.Asked.{EvenEdges};
+ghost use Rattle.meaning.specs.Even.{EvenEdges};
 ghost use Rattle.rules.specs.Lined.{Somewhere};
 ghost use Rattle.order.specs.Ranks.{Helps};
 

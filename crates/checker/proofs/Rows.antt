@@ -16,7 +16,8 @@ use Rattle.bridge.specs.Columns.{Apart}
 use Rattle.ancestry.specs.Column.{Rising}
 use Rattle.overtaking.specs.Overtaken.{Rightwards, Lined}
 use Rattle.ancestry.specs.Index.{Whole}
-use Rattle.rules.specs.Asked.{EvenEdges, NamedNodes}
+use Rattle.meaning.specs.Even.{EvenEdges}
+use Rattle.rules.specs.Asked.{NamedNodes}
 use Rattle.rules.specs.Lined.{Somewhere}
 
 -- 5: the rows named exist, the edge holds somewhere and not past the chromosome, and the parent is older

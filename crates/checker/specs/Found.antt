@@ -7,7 +7,7 @@ use Rattle.meaning.specs.Check.{repeated, edge_broken, edge_unordered, edge_shar
 use Rattle.meaning.specs.Answer.{Checked}
 use Rattle.std.specs.Prelude.{Ok, Err}
 use Rattle.order.specs.Ranks.{Ranked}
-use Rattle.rules.specs.Asked.{EvenEdges}
+use Rattle.meaning.specs.Even.{EvenEdges}
 use Rattle.rules.specs.ByChild.{ByChild}
 
 -- 1: the columns of each table are equally long; no later rule looks at the populations

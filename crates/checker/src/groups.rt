@@ -5,7 +5,7 @@ ghost use Rattle.meaning.specs.Answer.{done, limits, checked_of};
 ghost use Rattle.meaning.specs.Words.{lowest};
 ghost use Rattle.meaning.specs.Check.{tree_rules, site_rules, sample_rules, repeated};
 ghost use Rattle.order.specs.Ranks.{Ranked};
-ghost use Rattle.rules.specs.Asked.{EvenEdges};
+ghost use Rattle.meaning.specs.Even.{EvenEdges};
 ghost use Rattle.rules.specs.ByChild.{ByChild};
 ghost use Rattle.checker.specs.Found.{Shaped, Sized, TreeSound, Ordered};
 ghost use Rattle.rules.specs.Lengths.{ragged_table, large_table, refuse_table};

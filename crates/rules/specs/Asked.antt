@@ -2,12 +2,7 @@
 use Rattle.std.specs.Prelude.{◌≡◌, ℕ, ◌<◌, length}
 use Rattle.meaning.specs.Words.{at}
 use Rattle.meaning.specs.Rows.{NodeColumns, EdgeColumns}
-
--- the columns of the edges are equally long
-pub record EvenEdges (E : EdgeColumns) : Type 0 where
-  pub right_long : length E.right ≡ length E.left
-  pub parent_long : length E.parent ≡ length E.left
-  pub child_long : length E.child ≡ length E.left
+use Rattle.meaning.specs.Even.{EvenEdges}
 
 -- the columns are equally long, and every edge row names node rows that exist
 pub record NamedNodes (N : NodeColumns) (E : EdgeColumns) : Type 0 where

@@ -3,7 +3,8 @@ ghost use Rattle.std.specs.Prelude.{◌≡◌, [], ◌∷◌, ◌<◌, ◌≤◌
 ghost use Rattle.meaning.specs.Words.{lowest, lex};
 ghost use Rattle.meaning.specs.Rows.{age_table, edge_table};
 ghost use Rattle.meaning.specs.Check.{edge_broken, edge_unordered, edge_shared, key_of};
-ghost use Rattle.rules.specs.Asked.{EvenEdges, NamedNodes};
+ghost use Rattle.meaning.specs.Even.{EvenEdges};
+ghost use Rattle.rules.specs.Asked.{NamedNodes};
 ghost use Rattle.rules.specs.Lined.{Somewhere};
 ghost use Rattle.rules.specs.ByChild.{ByChild};
 

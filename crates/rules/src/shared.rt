@@ -4,7 +4,7 @@ ghost use Rattle.std.specs.Prelude.{◌≡◌, false, ℕ, ◌<◌, ◌≤◌, l
 ghost use Rattle.meaning.specs.Words.{lowest, any_below};
 ghost use Rattle.meaning.specs.Rows.{edge_table};
 ghost use Rattle.meaning.specs.Check.{share, edge_shared};
-ghost use Rattle.rules.specs.Asked.{EvenEdges};
+ghost use Rattle.meaning.specs.Even.{EvenEdges};
 ghost use Rattle.rules.specs.Lined.{Lined, Somewhere, Ascending};
 ghost use Rattle.rules.specs.ByChild.{ByChild};
 
