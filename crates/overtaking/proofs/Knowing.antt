@@ -1,5 +1,5 @@
 -- Answers kept: one more is known after a lookup, and what is known stays so further on.
-use mathlib.Core.Path.{◌≡◌, refl, sym, ap, ◌∙◌}
+use mathlib.Core.Path.{◌≡◌, sym, ap, ◌∙◌}
 use mathlib.Core.List.{List}
 use mathlib.Core.Logic.{◌⊎◌, inl, inr, ⊎_elim}
 use Prim.Native.Nat.{ℕ, zero, suc, ◌<◌, ◌≤◌}
@@ -14,7 +14,7 @@ use Rattle.ancestry.specs.declared.Stretch.{Stretch}
 use Rattle.ancestry.specs.Stretch.{until, stretch_at}
 use Rattle.ancestry.specs.Holds.{until_holds}
 use Rattle.overtaking.specs.Known.{Known, Keeping}
-use Rattle.overtaking.specs.Overtaken.{Rightwards, Lined}
+use Rattle.overtaking.specs.Overtaken.{Rightwards}
 
 -- nothing is known at first
 pub none_known : (E : EdgeColumns) (x : ℕ) (par ends : List ℕ) → ((u : ℕ) → at ends u ≡ 0) → Known E x par ends
@@ -44,9 +44,9 @@ known_stretch {E} {x} L u s q k long row =
     let e : s.end ≡ until E L x u = ap (λ (s : Stretch). s.end) q in
     (p, known_set u s.parent s.end k long row p (λ y h m. until_holds E x u L y h (omega arith)))
 
--- working columns of the same length will do
-pub still_keeping : {E : EdgeColumns} {L n : ℕ} {by ends par until par' until' : List ℕ} → length par' ≡ length par → length until' ≡ length until → Keeping E L n by ends par until → Keeping E L n by ends par' until'
-still_keeping p q k = record { indexed = k.indexed; ends_long = k.ends_long; par_long = omega (arith, k.par_long); until_long = omega (arith, k.until_long) }
+-- a working column of the same length will do
+pub still_keeping : {n : ℕ} {ends par par' : List ℕ} → length par' ≡ length par → Keeping n ends par → Keeping n ends par'
+still_keeping p k = record { ends_long = k.ends_long; par_long = omega (arith, k.par_long) }
 
 -- ---- along the sites
 

@@ -2,17 +2,19 @@
 use mathlib.Core.Path.{◌≡◌, refl, sym, ap, ◌∙◌}
 use mathlib.Core.Bool.{Bool, true, false}
 use mathlib.Core.List.{List}
-use mathlib.Core.Logic.{◌⊎◌, inl, inr, ⊎_elim}
-use Prim.Native.Nat.{ℕ, zero, suc, min, ◌+◌, ◌<◌, ◌≤◌}
+use mathlib.Core.Logic.{⊎_elim}
+use Prim.Native.Nat.{ℕ, min, ◌+◌, ◌<◌, ◌≤◌}
 use native.Mathlib.Omega.{arith}
-use lib.Dec.{eqb}
+use lib.Dec.{eqb, ltb}
 use lib.ListN.{length}
-use borrow.Author.Tests.{eq-eqb, eqb-true}
-use Rattle.meaning.specs.Words.{and, at, any_below, lowest}
+use borrow.Author.Tests.{eq-eqb, eqb-true, ltb-true, ltb-false}
+use Rattle.std.specs.Prelude.{Some, None}
+use Rattle.std.specs.Bool.{then_some}
+use Rattle.meaning.specs.Words.{and, at, any_below, lowest, row_below}
 use Rattle.meaning.specs.Rows.{EdgeColumns}
 use Rattle.laws.specs.Bools.{clash, eq?, and_of, and_yes, not_true}
 use Rattle.laws.specs.Counting.{below_of, of_below, lowest_is, lowest_none}
-use Rattle.overtaking.specs.Overtaken.{overtaken, overtaken_row, lower_of}
+use Rattle.overtaking.specs.Overtaken.{overtaken, overtaken_row}
 
 -- of the first i tests, those that pass have rows from least on, and one has it where it is below n
 pub record Least (f : ℕ → Bool) (row : List ℕ) (n i least : ℕ) : Type 0 where
@@ -24,26 +26,21 @@ pub least_start : (f : ℕ → Bool) (row : List ℕ) (n : ℕ) → Least f row 
 least_start f row n = record { top = omega arith; all = λ j l. absurd (omega arith); one = λ l. absurd (omega arith) }
 
 module _ {f : ℕ → Bool} {row : List ℕ} {n i least : ℕ} (k : Least f row n i least) where
-  pub least_next : (t : Bool) → t ≡ f i → Least f row n (i + 1) (lower_of least (at row i) t)
-  unfolding lower_of
-  least_next true e = record {
+  pub least_hit : (next : ℕ) → next ≡ min least (at row i) → f i ≡ true → Least f row n (i + 1) next
+  least_hit next q e = record {
     top = omega (arith, k.top);
-    all = λ j l h. ⊎_elim (λ (q : j ≡ i). omega (arith, ap (at row) q)) (λ (q : j ≡ i → ⊥). omega (arith, k.all j (omega arith) h)) (eq? j i);
-    one = λ l. go l (lower? (at row i) least);
+    all = λ j l h. ⊎_elim (λ (z : j ≡ i). omega (arith, ap (at row) z)) (λ (z : j ≡ i → ⊥). omega (arith, k.all j (omega arith) h)) (eq? j i);
+    one = λ l. go l (ltb (at row i) least) refl;
   }
     where
-      lower? : (a b : ℕ) → (a < b) ⊎ (b ≤ a)
-      lower? zero zero = inr (omega arith)
-      lower? zero (suc b) = inl (omega arith)
-      lower? (suc a) zero = inr (omega arith)
-      lower? (suc a) (suc b) = ⊎_elim (λ (l : a < b). inl (omega arith)) (λ (l : b ≤ a). inr (omega arith)) (lower? a b)
+      go : next < n → (t : Bool) → ltb (at row i) least ≡ t → (j : ℕ) × (j < i + 1) × (f j ≡ true) × (at row j ≡ next)
+      go l true h = (i, omega arith, e, omega (arith, ltb-true (at row i) least h))
+      go l false h = let r : _ = k.one (omega (arith, ltb-false (at row i) least h)) in (r.0, omega (arith, r.1), r.2, omega (arith, r.3, ltb-false (at row i) least h))
 
-      go : min least (at row i) < n → (at row i < least) ⊎ (least ≤ at row i) → (j : ℕ) × (j < i + 1) × (f j ≡ true) × (at row j ≡ min least (at row i))
-      go l (inl h) = (i, omega arith, sym e, omega arith)
-      go l (inr h) = let r : _ = k.one (omega arith) in (r.0, omega (arith, r.1), r.2, omega (arith, r.3))
-  least_next false e = record {
+  pub least_miss : f i ≡ false → Least f row n (i + 1) least
+  least_miss e = record {
     top = k.top;
-    all = λ j l h. ⊎_elim (λ (q : j ≡ i). absurd (clash h (ap f q ∙ sym e))) (λ (q : j ≡ i → ⊥). k.all j (omega arith) h) (eq? j i);
+    all = λ j l h. ⊎_elim (λ (q : j ≡ i). absurd (clash h (ap f q ∙ e))) (λ (q : j ≡ i → ⊥). k.all j (omega arith) h) (eq? j i);
     one = λ l. let r : _ = k.one l in (r.0, omega (arith, r.1), r.2, r.3);
   }
 
@@ -67,22 +64,11 @@ module _ (E : EdgeColumns) (position site node row : List ℕ) where
           let s : _ = and_of (eqb (at row r.0) j) (overtaken E position site node r.0) r.2 in
           absurd (omega (arith, k.all r.0 (omega (arith, r.1)) s.1, eqb-true (at row r.0) j s.0)))
 
--- ---- the lower of two
-
-pub lower_taken : (a b : ℕ) (t : Bool) → t ≡ true → b < a → b ≡ lower_of a b t
-unfolding lower_of
-lower_taken a b true e l = omega arith
-lower_taken a b false e l = absurd (clash e refl)
-
-pub lower_left : (a b : ℕ) (t : Bool) → t ≡ true → a ≤ b → a ≡ lower_of a b t
-unfolding lower_of
-lower_left a b true e l = omega arith
-lower_left a b false e l = absurd (clash e refl)
-
-pub lower_off : (a b : ℕ) (t : Bool) → t ≡ false → a ≡ lower_of a b t
-unfolding lower_of
-lower_off a b true e = absurd (clash refl e)
-lower_off a b false e = refl
-
-pub least_is : {f : ℕ → Bool} {row : List ℕ} {n i a b : ℕ} → a ≡ b → Least f row n i b → Least f row n i a
-least_is {f} {row} {n} {i} e k = rw e k
+-- the least row found, where there is one
+pub then_row : (n r : ℕ) → then_some (ltb r n) r ≡ row_below n r
+unfolding row_below
+then_row n r = go (ltb r n)
+  where
+    go : (t : Bool) → then_some t r ≡ elim t [ true ↦ Some r | false ↦ None ]
+    go true = refl
+    go false = refl

@@ -1,6 +1,6 @@
 -- Where each site's mutations stand older first, none is above an earlier one: an ancestor is older.
-use mathlib.Core.Path.{◌≡◌, sym, ap, ◌∙◌}
-use mathlib.Core.Bool.{Bool, true, false}
+use mathlib.Core.Path.{◌≡◌, refl, sym, ap, ◌∙◌}
+use mathlib.Core.Bool.{Bool, true, false, not}
 use mathlib.Core.List.{List}
 use mathlib.Core.Logic.{⊎_elim}
 use Prim.Native.Nat.{ℕ, zero, suc, ◌+◌, ◌<◌, ◌≤◌}
@@ -8,11 +8,12 @@ use native.Mathlib.Omega.{arith}
 use lib.Dec.{eqb, ltb}
 use lib.ListN.{length}
 use borrow.Author.Tests.{eqb-true, ltb-false}
-use Rattle.meaning.specs.Words.{and, at, any_below, lowest}
+use Rattle.std.specs.Prelude.{None}
+use Rattle.meaning.specs.Words.{and, at, any_below, lowest_row}
 use Rattle.meaning.specs.Rows.{EdgeColumns}
 use Rattle.meaning.specs.Forest.{Ages, ancestor}
 use Rattle.laws.specs.Bools.{clash, eq?, and_of, not_true}
-use Rattle.laws.specs.Counting.{below_miss, below_of, below_none, of_below, lowest_none}
+use Rattle.laws.specs.Counting.{below_miss, below_of, below_none, of_below, lowest_found}
 use Rattle.bridge.specs.Parents.{parent_row}
 use Rattle.ancestry.specs.Column.{Rising}
 use Rattle.overtaking.specs.Sites.{ends_site, younger_first, some_younger_first}
@@ -23,13 +24,13 @@ use Rattle.overtaking.proofs.Stamping.{ancestor_older}
 -- ---- one row, and row after row
 
 module _ (time site node : List ℕ) where
-  pub last_older : (i : ℕ) → true ≡ ends_site site i → false ≡ younger_first time site node i
+  pub last_older : (i : ℕ) (e : Bool) → e ≡ ends_site site i → e ≡ true → not e ≡ younger_first time site node i
   unfolding younger_first
-  last_older i h = rw (sym h)
+  last_older i e h q = rw (sym h) (rw q refl)
 
-  pub inner_older : (i : ℕ) → false ≡ ends_site site i → ltb (at time (at node i)) (at time (at node (i + 1))) ≡ younger_first time site node i
+  pub inner_older : (i : ℕ) (e : Bool) → e ≡ ends_site site i → e ≡ false → ltb (at time (at node i)) (at time (at node (i + 1))) ≡ younger_first time site node i
   unfolding younger_first
-  inner_older i h = let q : i + 1 ≡ suc i = omega arith in rw (sym h) (ap (λ j. ltb (at time (at node i)) (at time (at node j))) q)
+  inner_older i e h q = let p : i + 1 ≡ suc i = omega arith in rw (sym h) (rw q (ap (λ j. ltb (at time (at node i)) (at time (at node j))) p))
 
   pub some_found : (i : ℕ) → i < length site → younger_first time site node i ≡ true → true ≡ some_younger_first time site node
   unfolding some_younger_first
@@ -78,10 +79,10 @@ module _ (time : List ℕ) {site node : List ℕ} {sites nodes : ℕ} (ok : Line
         f j = and (eqb (at site j) (at site i)) (ancestor (parent_row E (at position (at site i))) (at node i) (at node j))
 
     -- no mutation is above an earlier one
-    pub none_overtaken : length site ≡ lowest (overtaken E position site node) (length site)
-    none_overtaken = sym (lowest_none (overtaken E position site node) (length site) free)
+    pub none_overtaken : None ≡ lowest_row (overtaken E position site node) (length site)
+    none_overtaken = lowest_found (overtaken E position site node) (length site) None free
 
     -- and so is no row that stands beside one
-    pub no_row_overtaken : (row : List ℕ) → length site ≡ lowest (overtaken_row E position site node row) (length site)
+    pub no_row_overtaken : (row : List ℕ) → None ≡ lowest_row (overtaken_row E position site node row) (length site)
     unfolding overtaken_row
-    no_row_overtaken row = sym (lowest_none (overtaken_row E position site node row) (length site) (λ k l. not_true _ (λ g. let r : _ = below_of (λ i. and (eqb (at row i) k) (overtaken E position site node i)) (length site) g in clash (and_of (eqb (at row r.0) k) (overtaken E position site node r.0) r.2).1 (free r.0 r.1))))
+    no_row_overtaken row = lowest_found (overtaken_row E position site node row) (length site) None (λ k l. not_true _ (λ g. let r : _ = below_of (λ i. and (eqb (at row i) k) (overtaken E position site node i)) (length site) g in clash (and_of (eqb (at row r.0) k) (overtaken E position site node r.0) r.2).1 (free r.0 r.1)))

@@ -2,8 +2,8 @@
 use mathlib.Core.Path.{◌≡◌, refl, sym, ap, ◌∙◌}
 use mathlib.Core.Bool.{Bool, true, false, not}
 use mathlib.Core.List.{List}
-use mathlib.Core.Logic.{◌⊎◌, ⊎_elim}
-use Prim.Native.Nat.{ℕ, zero, suc, ◌+◌, ◌-◌, ◌<◌, ◌≤◌}
+use mathlib.Core.Logic.{⊎_elim}
+use Prim.Native.Nat.{ℕ, zero, suc, ◌+◌, ◌<◌, ◌≤◌}
 use native.Mathlib.Omega.{arith}
 use lib.Dec.{eqb, leb}
 use lib.ListN.{length}
@@ -14,19 +14,19 @@ use Rattle.meaning.specs.Forest.{ancestor}
 use Rattle.laws.specs.Bools.{eq?, and_of, or_no, or_right, not_of, not_no, not_true}
 use Rattle.laws.specs.Counting.{below_hit, below_miss, below_of}
 use Rattle.bridge.specs.Parents.{parent_row}
-use Rattle.overtaking.specs.Sites.{ends_site, EndFrom}
+use Rattle.overtaking.specs.Sites.{ends_site}
 use Rattle.overtaking.specs.Overtaken.{over, Lined}
 
 -- ---- where a site ends
 
 module _ (site : List ℕ) where
-  pub last_ends : (i : ℕ) → length site - i ≤ 1 → true ≡ ends_site site i
+  pub last_ends : (i : ℕ) → i + 1 ≡ length site → eqb (i + 1) (length site) ≡ ends_site site i
   unfolding ends_site
-  last_ends i h = rw (le-leb (length site) (suc i) (omega arith))
+  last_ends i h = rw (le-leb (length site) (suc i) (omega arith)) (eq-eqb (i + 1) (length site) h)
 
-  pub inner_ends : (i : ℕ) → 1 < length site - i → not (eqb (at site i) (at site (i + 1))) ≡ ends_site site i
+  pub inner_ends : (i : ℕ) → i < length site → (i + 1 ≡ length site → ⊥) → not (eqb (at site i) (at site (i + 1))) ≡ ends_site site i
   unfolding ends_site
-  inner_ends i h =
+  inner_ends i l n =
       let q : i + 1 ≡ suc i = omega arith in
       rw (lt-leb (length site) (suc i) (omega arith)) (ap (λ j. not (eqb (at site i) (at site j))) q)
 
@@ -57,10 +57,6 @@ module _ (site : List ℕ) where
     -- after a row that ends its site, all rows before have lower sites
     pub lower_before : (i : ℕ) → ends_site site i ≡ true → suc i < length site → (j : ℕ) → j < suc i → at site j < at site (suc i)
     lower_before i h l j k = omega (arith, ends_of i h l, not_falling j i (omega arith) (omega arith), ok.rise i l)
-
-    -- and all rows after it higher ones
-    pub past_end : (i r : ℕ) → EndFrom site i r → (j : ℕ) → r < j → j < length site → at site i < at site j
-    past_end i r e j h l = omega (arith, lower_before r e.ends (omega arith) i (omega (arith, e.after)), not_falling (suc r) j (omega arith) l)
 
 -- ---- the rows above the mutations gone over
 

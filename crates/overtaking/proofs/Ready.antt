@@ -16,9 +16,9 @@ use Rattle.bridge.specs.Parents.{parent_row}
 use Rattle.overtaking.specs.Stamps.{stamped, StampedBut, Stampable, StampedUp}
 use Rattle.overtaking.specs.Sites.{ends_site, From}
 use Rattle.overtaking.specs.Bounds.{Bounded}
-use Rattle.overtaking.specs.Overtaken.{over, overtaken, Lined, Ordered, Ready, ReadyNext, Going, Gone}
+use Rattle.overtaking.specs.Overtaken.{over, overtaken, Lined, Ordered, Working, Ready, ReadyNext, Going, Gone}
 use Rattle.overtaking.specs.Known.{Known}
-use Rattle.overtaking.proofs.Knowing.{none_known, known_on, further}
+use Rattle.overtaking.proofs.Knowing.{none_known, known_on, still_keeping, further}
 use Rattle.overtaking.proofs.Overtaking.{goes_on, lower_before, over_next, over_none}
 use Rattle.overtaking.proofs.Stamping.{still_stamped}
 
@@ -106,7 +106,7 @@ module _ {time : List ℕ} {E : EdgeColumns} {position site node : List ℕ} whe
     ready = ready_start time E position site node stamps w;
   }
 
-  module _ {i : ℕ} {par ends stamps : List ℕ} (ok : Ordered time E position site node) where
+  module _ {i : ℕ} {par ends stamps : List ℕ} (ok : Ordered time position site node) where
     pub going_next : Gone time E position site node i par ends stamps → i + 1 < length site → Going time E position site node (i + 1) par ends stamps
     going_next g l = record {
       known = known_on (at position (at site (i + 1))) (further position ok.rightwards (at site i) (at site (i + 1)) rise (ok.lined.site_row (i + 1) l)) g.known;
@@ -136,5 +136,9 @@ module _ {time : List ℕ} {E : EdgeColumns} {position site node : List ℕ} whe
       unfolding overtaken stamped
       own_stamp l = bool_ext (g.ready.only (at node i)) (g.ready.all i (at node i) (record { after = omega arith; row = l; own = refl }) (omega arith))
 
-pub stampable_node : {time : List ℕ} {E : EdgeColumns} {position site node : List ℕ} {i : ℕ} {stamps : List ℕ} → Ordered time E position site node → length time ≤ length stamps → i < length site → Stampable time E stamps (at node i)
-stampable_node {i = i} ok long l = record { rising = ok.rising; few = ok.few; long = long; row = ok.lined.node_row i l }
+pub stampable_node : {time : List ℕ} {E : EdgeColumns} {position site node : List ℕ} {i : ℕ} {ends par stamps : List ℕ} → Ordered time position site node → Working time E ends par stamps → i < length site → Stampable time E stamps (at node i)
+stampable_node {i = i} ok w l = record { rising = w.rising; few = ok.few; long = w.stamps_long; row = ok.lined.node_row i l }
+
+-- working columns of the same length will do
+pub still_working : {time : List ℕ} {E : EdgeColumns} {ends par stamps par' stamps' : List ℕ} → length par' ≡ length par → length stamps' ≡ length stamps → Working time E ends par stamps → Working time E ends par' stamps'
+still_working p q w = record { rising = w.rising; keeping = still_keeping p w.keeping; stamps_long = omega (arith, w.stamps_long) }

@@ -3,15 +3,12 @@ use Rattle.std.specs.Prelude.{◌≡◌, List, ℕ, ◌<◌, ◌≤◌, length}
 use Rattle.meaning.specs.Words.{at}
 use Rattle.meaning.specs.Rows.{EdgeColumns}
 use Rattle.bridge.specs.Parents.{code, parent_row}
-use Rattle.ancestry.specs.Index.{Indexed}
 
 -- from x on, and below its end, each row's parent is the one kept
 pub record Known (E : EdgeColumns) (x : ℕ) (par until : List ℕ) : Type 0 where
   pub cell : (u y : ℕ) → u < length par → x ≤ y → y < at until u → at par u ≡ code (parent_row E y u)
 
--- what keeping answers for n rows asks: the edges by child, and columns that are long enough
-pub record Keeping (E : EdgeColumns) (L n : ℕ) (by ends par until : List ℕ) : Type 0 where
-  pub indexed : Indexed E L by ends
+-- what keeping answers for n rows asks: columns that are long enough
+pub record Keeping (n : ℕ) (ends par : List ℕ) : Type 0 where
   pub ends_long : n ≤ length ends
   pub par_long : n ≤ length par
-  pub until_long : length until ≡ length par

@@ -1,14 +1,14 @@
 -- Rule 10 by rows: what a site's marks say of the mutations gone over, and what rules 1 and 9 find of the mutations.
-use Rattle.std.specs.Prelude.{◌≡◌, refl, Bool, true, false, List, ℕ, suc, min, ◌+◌, ◌<◌, ◌≤◌, eqb, length}
+use Rattle.std.specs.Prelude.{◌≡◌, refl, Bool, true, List, ℕ, suc, ◌+◌, ◌<◌, ◌≤◌, eqb, length}
 use Rattle.std.proofs.Common.{ap}
 use Rattle.std.proofs.Math.Path.{fun_ext}
 use Rattle.meaning.specs.Words.{and, at, any_below, lowest}
 use Rattle.meaning.specs.Rows.{EdgeColumns, MutationColumns, edges_of}
-use Rattle.meaning.specs.Forest.{ancestor}
+use Rattle.meaning.specs.Forest.{Ages, ancestor}
 use Rattle.meaning.specs.Check.{mutation_above, overtakes}
 use Rattle.bridge.specs.Parents.{no_row, parent_row}
 use Rattle.ancestry.specs.Column.{Rising}
-use Rattle.overtaking.specs.Known.{Known}
+use Rattle.overtaking.specs.Known.{Known, Keeping}
 use Rattle.overtaking.specs.Stamps.{stamped, StampedAbove}
 use Rattle.overtaking.specs.Sites.{From}
 
@@ -41,13 +41,19 @@ pub record Lined (sites nodes : ℕ) (site node : List ℕ) : Type 0 where
   pub node_row : (i : ℕ) → i < length site → at node i < nodes
   pub rise : (i : ℕ) → suc i < length site → at site i ≤ at site (suc i)
 
--- what rule 10 asks of the tables: there are at most so many rows as a stamp can number
-pub record Ordered (time : List ℕ) (E : EdgeColumns) (position site node : List ℕ) : Type 0 where
-  pub rising : Rising time E
+-- what rule 10 asks of the nodes, sites and mutations: times fit, and there are at most so many rows as a stamp can number
+pub record Ordered (time position site node : List ℕ) : Type 0 where
+  pub young : (v : ℕ) → at time v < Ages
   pub rightwards : Rightwards position
   pub lined : Lined (length position) (length time) site node
   pub few : length time ≤ no_row
   pub few_sites : length position ≤ no_row
+
+-- and of the edges and the working columns
+pub record Working (time : List ℕ) (E : EdgeColumns) (ends par stamps : List ℕ) : Type 0 where
+  pub rising : Rising time E
+  pub keeping : Keeping (length time) ends par
+  pub stamps_long : length time ≤ length stamps
 
 -- stamps at site row s after the first i mutations: the stamp is the site's row and one; only rows above them have it, and of those all
 -- that are no older than the node of a mutation still to come, up to which what is stamped is closed upwards
@@ -77,8 +83,3 @@ pub record Gone (time : List ℕ) (E : EdgeColumns) (position site node : List �
 unfoldable pub overtaken_row : EdgeColumns → List ℕ → List ℕ → List ℕ → List ℕ → ℕ → Bool
 unfolding any_below overtaken
 overtaken_row E position site node row k = any_below (λ i. and (eqb (at row i) k) (overtaken E position site node i)) (length site)
-
--- the lower of two numbers where the second counts, and else the first
-unfoldable pub lower_of : ℕ → ℕ → Bool → ℕ
-lower_of a b true = min a b
-lower_of a b false = a

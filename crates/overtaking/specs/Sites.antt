@@ -1,5 +1,5 @@
 -- Mutation rows by site: where a site's rows end, and which of them are still to come.
-use Rattle.std.specs.Prelude.{◌≡◌, Bool, true, not, List, ℕ, suc, ◌<◌, ◌≤◌, eqb, leb, ltb, length}
+use Rattle.std.specs.Prelude.{◌≡◌, Bool, not, List, ℕ, suc, ◌<◌, ◌≤◌, eqb, leb, ltb, length}
 use Rattle.meaning.specs.Words.{and, or, at, any_below}
 
 -- mutation row i is the last of its site
@@ -15,12 +15,6 @@ younger_first time site node i = and (not (ends_site site i)) (ltb (at time (at 
 unfoldable pub some_younger_first : List ℕ → List ℕ → List ℕ → Bool
 unfolding younger_first any_below
 some_younger_first time site node = any_below (younger_first time site node) (length site)
-
--- mutation row r ends a site, and row i is not after it
-pub record EndFrom (site : List ℕ) (i r : ℕ) : Type 0 where
-  pub after : i ≤ r
-  pub row : r < length site
-  pub ends : ends_site site r ≡ true
 
 -- mutation row j is at site row s, and not before row i
 pub record From (site : List ℕ) (s i j : ℕ) : Type 0 where

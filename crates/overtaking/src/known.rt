@@ -1,35 +1,36 @@
 // Answers of the lookup, kept for each row up to the end that came with them: a row is looked up again only where its parent changes.
 ghost use Rattle.std.specs.Prelude.{◌≡◌, ◌<◌, length};
-ghost use Rattle.meaning.specs.Rows.{edge_table};
+ghost use Rattle.meaning.specs.Columns.{edges_in};
 ghost use Rattle.bridge.specs.Parents.{code, parent_row};
-ghost use Rattle.ancestry.specs.Index.{Indexed};
 ghost use Rattle.overtaking.specs.Known.{Known};
 
-// The parent row of row u at x, or none: the answer kept while it holds, and else a new one.
-pub fn parent_kept(
-    len: u32,
-    left: &[u32],
-    right: &[u32],
-    parent: &[u32],
-    child: &[u32],
-    by_child: &[u32],
-    ends: &[u32],
-    x: u32,
-    u: u32,
-    par: &mut [u32],
-    until: &mut [u32],
-) -> u32
-    requires { Indexed (edge_table left.now right.now parent.now child.now) len by_child.now ends.now × (u < length ends.now) × (u < length par.old) × (length until.old ≡ length par.old) × Known
-        (edge_table left.now right.now parent.now child.now) x par.old until.old }
-    ensures { (result ≡ code (parent_row (edge_table left.now right.now parent.now child.now) x u)) × Known
-        (edge_table left.now right.now parent.now child.now) x par.new until.new }
-{
-    let i = u as usize;
-    if x < until[i] {
-        return par[i];
+use ancestry::edge_index::EdgeIndex;
+
+// The answers kept: the parent of each row, and up to where it is so.
+#[derive(Drop)]
+pub struct Kept<'a> {
+    pub par: &'a mut [u32],
+    pub until: &'a mut [u32],
+    pub ghost even: { length until.now ≡ length par.now },
+}
+
+impl Kept<'_> {
+    // The parent row of row u at x, or none: the answer kept while it holds, and else a new one.
+    pub fn parent(&mut self, index: EdgeIndex, x: u32, u: u32) -> u32
+        requires { (u < length index.ends.now) ×
+            (u < length self.old.par.now) ×
+            Known (edges_in index.edges) x self.old.par.now self.old.until.now }
+        ensures answer { result ≡ code (parent_row (edges_in index.entry.edges) x u) }
+        ensures known { Known (edges_in index.entry.edges) x self.new.par.now self.new.until.now }
+        ensures long { length self.new.par.now ≡ length self.old.par.now }
+    {
+        let i = u as usize;
+        if x < self.until[i] {
+            return self.par[i];
+        }
+        let s = ancestry::lookup::parent_from(index, x, u);
+        self.par[i] = s.parent;
+        self.until[i] = s.end;
+        s.parent
     }
-    let s = ancestry::lookup::parent_from(len, left, right, parent, child, by_child, ends, x, u);
-    par[i] = s.parent;
-    until[i] = s.end;
-    s.parent
 }

@@ -3,8 +3,9 @@
 #![tactic(auto)]
 
 ghost use Rattle.std.specs.Prelude.{◌≡◌, false, ℕ, ◌<◌, ◌≤◌, length};
-ghost use Rattle.meaning.specs.Words.{lowest};
-ghost use Rattle.meaning.specs.Rows.{edge_table, mutation_table, edges_of};
+ghost use Rattle.meaning.specs.Words.{lowest_row};
+ghost use Rattle.meaning.specs.Rows.{edges_of};
+ghost use Rattle.meaning.specs.Columns.{edges_in, mutations_in};
 ghost use Rattle.meaning.specs.Answer.{limits};
 ghost use Rattle.meaning.specs.Check.{edge_shared, mutation_above};
 ghost use Rattle.rules.specs.ByChild.{ByChild};
@@ -12,111 +13,98 @@ ghost use Rattle.ancestry.specs.Column.{Rising};
 ghost use Rattle.ancestry.specs.Index.{Whole};
 ghost use Rattle.overtaking.specs.Overtaken.{Rightwards, Lined, overtaken_row};
 
+use ancestry::edge_index::EdgeIndex;
 use meaning::NodeTable;
+use meaning::columns::{EdgeColumns, Tables};
 
 pub mod known; // answers of the lookup, kept
-mod sites; // where a site's mutations end, and whether they stand older first
+pub mod sites; // the mutations by site: where a site's rows end, and whether they stand older first
 mod bounds; // how far up a mutation's ancestors matter
 mod stamps; // stamping upwards, one mutation after another
 
+use known::Kept;
+use sites::BySite;
+
 // 01's rule 10 by rows: the lowest mutation row whose node is a proper ancestor, at its site's position, of the node of an earlier
-// mutation at that site, or the number of rows. Where each site's mutations stand older first there is nothing to look at.
-pub fn first_above(
-    len: u32,
-    time: &[u32],
-    left: &[u32],
-    right: &[u32],
-    parent: &[u32],
-    child: &[u32],
-    by_child: &[u32],
-    position: &[u32],
-    site: &[u32],
-    node: &[u32],
-    derived: &[u8],
-) -> usize
-    requires { (length time.now ≤ limits.nodes) × (length left.now ≤ limits.edges) × (length position.now ≤ limits.sites) × Rising time.now
-        (edge_table left.now right.now parent.now child.now) × Whole
-        (edge_table left.now right.now parent.now child.now) len × ByChild
-        (edge_table left.now right.now parent.now child.now) by_child.now × Rightwards position.now × Lined (length position.now) (length time.now) site.now node.now }
+// mutation at that site. Where each site's mutations stand older first there is nothing to look at.
+pub fn first_above(len: u32, tables: Tables, by_child: &[u32]) -> Option<usize>
+    requires { (length tables.ages.time.now ≤ limits.nodes) ×
+        (length tables.edges.left.now ≤ limits.edges) ×
+        (length tables.sites.position.now ≤ limits.sites) ×
+        Rising tables.ages.time.now (edges_in tables.edges) ×
+        Whole (edges_in tables.edges) len ×
+        ByChild (edges_in tables.edges) by_child.now ×
+        Rightwards tables.sites.position.now ×
+        Lined (length tables.sites.position.now) (length tables.ages.time.now) tables.mutations.site.now tables.mutations.node.now }
     ensures { result
-        ≡ lowest (mutation_above (edges_of (λ x. x)
-        (edge_table left.now right.now parent.now child.now)) position.now (λ x. x)
-        (mutation_table site.now node.now derived.now)) (length site.now) }
+        ≡ lowest_row (mutation_above (edges_of (λ x. x) (edges_in tables.entry.edges)) tables.entry.sites.position.now (λ x. x)
+        (mutations_in tables.entry.mutations)) (length tables.entry.mutations.site.now) }
 {
-    if !sites::some_younger_first(time, site, node) {
-        return site.len();
+    let mutations = BySite::new(
+        tables.ages.time,
+        tables.sites.position,
+        tables.mutations.site,
+        tables.mutations.node,
+    );
+    if !mutations.some_younger_first() {
+        return None;
     }
     let mut ends = [0u32; NodeTable::MOST];
     let mut par = [0u32; NodeTable::MOST];
     let mut until = [0u32; NodeTable::MOST];
-    let mut marks = [0u32; NodeTable::MOST];
-    ancestry::index::fill_ends(left, right, parent, child, by_child, &mut ends);
-    stamps::lowest_above(
-        len, time, left, right, parent, child, by_child, &ends, position, site, node, &mut par,
-        &mut until, &mut marks,
-    )
+    let mut stamps = [0u32; NodeTable::MOST];
+    ancestry::index::fill_ends(tables.edges, by_child, &mut ends);
+    let index = EdgeIndex {
+        len,
+        edges: tables.edges,
+        by_child,
+        ends: &ends,
+    };
+    let mut kept = Kept {
+        par: &mut par,
+        until: &mut until,
+    };
+    stamps::lowest_above(index, mutations, &mut kept, &mut stamps)
 }
 
-// The same of mutations that stand in another order, by site, with their rows beside them: the lowest of those rows.
-fn least_by_child(
-    len: u32,
-    time: &[u32],
-    left: &[u32],
-    right: &[u32],
-    parent: &[u32],
-    child: &[u32],
-    by_child: &[u32],
-    position: &[u32],
-    site: &[u32],
-    node: &[u32],
-    row: &[u32],
-) -> usize
-    requires { (length time.now ≤ limits.nodes) × (length left.now ≤ limits.edges) × (length position.now ≤ limits.sites) × Rising time.now
-        (edge_table left.now right.now parent.now child.now) × Whole
-        (edge_table left.now right.now parent.now child.now) len × ByChild
-        (edge_table left.now right.now parent.now child.now) by_child.now × Rightwards position.now × Lined (length position.now) (length time.now) site.now node.now × (length row.now ≡ length site.now) }
-    ensures { result
-        ≡ lowest (overtaken_row
-        (edge_table left.now right.now parent.now child.now) position.now site.now node.now row.now) (length site.now) }
-{
-    let mut ends = [0u32; NodeTable::MOST];
-    let mut par = [0u32; NodeTable::MOST];
-    let mut until = [0u32; NodeTable::MOST];
-    let mut marks = [0u32; NodeTable::MOST];
-    ancestry::index::fill_ends(left, right, parent, child, by_child, &mut ends);
-    stamps::least_above(
-        len, time, left, right, parent, child, by_child, &ends, position, site, node, row,
-        &mut par, &mut until, &mut marks,
-    )
-}
-
-// The same of edges that are not by child yet; by_child is a working column. Where each site's mutations stand older first the edges are left alone.
+// The same of mutations with their rows beside them: the lowest of those rows. The edges are not by child yet, and by_child is a working
+// column. Where each site's mutations stand older first the edges are left alone.
 pub fn least_row_above(
     len: u32,
-    time: &[u32],
-    left: &[u32],
-    right: &[u32],
-    parent: &[u32],
-    child: &[u32],
-    position: &[u32],
-    site: &[u32],
-    node: &[u32],
+    edges: EdgeColumns,
+    mutations: BySite,
     row: &[u32],
     by_child: &mut [u32],
-) -> usize
-    requires { (length time.now ≤ limits.nodes) × (length left.now ≤ limits.edges) × (length position.now ≤ limits.sites) × Rising time.now
-        (edge_table left.now right.now parent.now child.now) × Whole
-        (edge_table left.now right.now parent.now child.now) len × ((i : ℕ) → i < length left.now → edge_shared
-        (edge_table left.now right.now parent.now child.now) i ≡ false) × Rightwards position.now × Lined (length position.now) (length time.now) site.now node.now × (length row.now ≡ length site.now) × (length by_child.old ≡ length left.now) }
+) -> Option<usize>
+    requires { (length mutations.time.now ≤ limits.nodes) ×
+        (length edges.left.now ≤ limits.edges) ×
+        Rising mutations.time.now (edges_in edges) ×
+        Whole (edges_in edges) len ×
+        ((i : ℕ) → i < length edges.left.now → edge_shared (edges_in edges) i ≡ false) ×
+        (length row.now ≡ length mutations.site.now) ×
+        (length by_child.old ≡ length edges.left.now) }
     ensures { result
-        ≡ lowest (overtaken_row
-        (edge_table left.now right.now parent.now child.now) position.now site.now node.now row.now) (length site.now) }
+        ≡ lowest_row (overtaken_row (edges_in edges.entry) mutations.entry.position.now mutations.entry.site.now mutations.entry.node.now
+        row.now) (length mutations.entry.site.now) }
 {
-    if !sites::some_younger_first(time, site, node) {
-        return site.len();
+    if !mutations.some_younger_first() {
+        return None;
     }
-    rules::shared::by_child(left, right, parent, child, by_child);
-    least_by_child(
-        len, time, left, right, parent, child, by_child, position, site, node, row,
-    )
+    rules::shared::by_child(edges.left, edges.right, edges.parent, edges.child, by_child);
+    let mut ends = [0u32; NodeTable::MOST];
+    let mut par = [0u32; NodeTable::MOST];
+    let mut until = [0u32; NodeTable::MOST];
+    let mut stamps = [0u32; NodeTable::MOST];
+    ancestry::index::fill_ends(edges, by_child, &mut ends);
+    let index = EdgeIndex {
+        len,
+        edges,
+        by_child,
+        ends: &ends,
+    };
+    let mut kept = Kept {
+        par: &mut par,
+        until: &mut until,
+    };
+    stamps::least_above(index, mutations, row, &mut kept, &mut stamps)
 }

@@ -2,14 +2,17 @@
 use mathlib.Core.Path.{◌≡◌, refl, ap, ◌∙◌}
 use mathlib.Core.Bool.{Bool, true, false}
 use mathlib.Core.List.{List, [], ◌∷◌}
-use Prim.Native.Nat.{ℕ}
+use Prim.Native.Nat.{ℕ, zero, suc}
+use native.Mathlib.Omega.{arith}
+use Rattle.std.specs.Prelude.{Option, Some, None}
 use lib.Dec.{ltb}
 use lib.ListN.{length}
+use borrow.Author.Tests.{ne_eqb}
 use Rattle.meaning.specs.Words.{or, any}
 use Rattle.meaning.specs.Rows.{Tables}
-use Rattle.meaning.specs.Answer.{Answer, Limits, refuse, ragged}
+use Rattle.meaning.specs.Answer.{Answer, Limits, answer, refuse, ragged}
 use Rattle.meaning.specs.Check.{shapes, sizes}
-use Rattle.rules.specs.Lengths.{lengths_of, unlike, table_if, ragged_table, large_table, refuse_table}
+use Rattle.rules.specs.Lengths.{lengths_of, unlike, table_if, ragged_table, large_table, table_of, refuse_table}
 
 any_cons : {A : Type 0} (f : A → Bool) (a : A) (l : List A) → any f (a ∷ l) ≡ or (f a) (any f l)
 unfolding any
@@ -67,3 +70,25 @@ shapes_by_lengths T rest =
 pub sizes_by_lengths : (m : Limits) (T : Tables) (rest : Answer) → sizes m T rest ≡ refuse_table 2 (large_table m (length T.nodes.time) (length T.edges.left) (length T.sites.position) (length T.muts.site)) rest
 unfolding sizes large_table
 sizes_by_lengths m T rest = first_of_four 2 (ltb m.nodes (length T.nodes.time)) (ltb m.edges (length T.edges.left)) (ltb m.sites (length T.sites.position)) (ltb m.mutations (length T.muts.site)) rest
+
+-- ---- the table told of by a search on lengths
+
+module _ (n : ℕ) (rest : Answer) where
+  pub told_table : (t r : ℕ) → Some r ≡ table_of t → refuse_table n t rest ≡ answer n r
+  unfolding table_of refuse
+  told_table zero r e = absurd (some_none e)
+    where
+      some_none : {a : ℕ} → ◌≡◌ {A = Option ℕ} (Some a) None → ⊥
+      some_none q = let z : ◌≡◌ {A = ℕ} 0 1 = cc in omega arith
+  told_table (suc t) r e = let z : suc t ≡ 0 → ⊥ = λ q. omega arith in rw (ne_eqb (suc t) 0 z, refuse) (ap (answer n) (some_same e))
+    where
+      some_same : {a b : ℕ} → ◌≡◌ {A = Option ℕ} (Some a) (Some b) → b ≡ a
+      some_same q = cc
+
+  pub no_table : (t : ℕ) → None ≡ table_of t → refuse_table n t rest ≡ rest
+  unfolding table_of refuse
+  no_table zero e = refl
+  no_table (suc t) e = absurd (none_some e)
+    where
+      none_some : {a : ℕ} → ◌≡◌ {A = Option ℕ} None (Some a) → ⊥
+      none_some q = let z : ◌≡◌ {A = ℕ} 0 1 = cc in omega arith

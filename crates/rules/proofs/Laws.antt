@@ -1,28 +1,33 @@
--- Numbers compared in order.
-use mathlib.Core.Path.{◌≡◌, refl, sym, ◌∙◌}
+-- Four numbers compared in order.
+use mathlib.Core.Path.{◌≡◌, refl}
 use mathlib.Core.Bool.{Bool, true, false}
-use mathlib.Core.List.{List, [], ◌∷◌}
-use mathlib.Core.Logic.{⊎_elim}
-use Prim.Native.Nat.{ℕ, ◌≤◌}
-use native.Mathlib.Omega.{arith}
-use lib.Dec.{ltb}
-use borrow.Author.Tests.{le-ltb, eq-eqb, ne_eqb}
+use mathlib.Core.List.{[], ◌∷◌}
+use Prim.Native.Nat.{ℕ}
+use lib.Dec.{eqb, ltb}
+use Rattle.std.specs.Prelude.{Option, Some, cond}
+use Rattle.std.proofs.Common.{Ordering, Less, Equal, Greater}
+use Rattle.std.specs.Ordering.{partial_ordering_then, partial_lt, as_partial_cmp, nat_cmp, is_some_and, is_lt}
 use Rattle.meaning.specs.Words.{lex}
-use Rattle.laws.specs.Bools.{eq?}
 
-module _ {a b : ℕ} (l m : List ℕ) where
-  pub lex_other : (a ≡ b → ⊥) → lex (a ∷ l) (b ∷ m) ≡ ltb a b
-  unfolding lex
-  lex_other n = go (ltb a b) refl
-    where
-      go : (t : Bool) → ltb a b ≡ t → lex (a ∷ l) (b ∷ m) ≡ ltb a b
-      go true e = rw (e, lex)
-      go false e = rw (e, lex) (rw (ne_eqb a b n))
+-- what two numbers are to each other
+abbrev to : Bool → Bool → Option Ordering
+to less same = Some (cond less Less (cond same Equal Greater))
 
-  pub lex_alike : a ≡ b → lex (a ∷ l) (b ∷ m) ≡ lex l m
-  unfolding lex
-  lex_alike e = let q : b ≤ a = omega arith in rw (le-ltb a b q, lex) (rw (eq-eqb a b e))
+abbrev then : Bool → Bool → Bool → Bool
+then less same rest = elim less [ true ↦ true | false ↦ elim same [ true ↦ rest | false ↦ false ] ]
 
-pub lex_last : (a b : ℕ) → lex (a ∷ []) (b ∷ []) ≡ ltb a b
+four : (a b c d e f g h : Bool) → is_some_and is_lt (partial_ordering_then (partial_ordering_then (partial_ordering_then (to a b) (to c d)) (to e f)) (to g h)) ≡ then a b (then c d (then e f (then g h false)))
+four true b c d e f g h = refl
+four false false c d e f g h = refl
+four false true true d e f g h = refl
+four false true false false e f g h = refl
+four false true false true true f g h = refl
+four false true false true false false g h = refl
+four false true false true false true true h = refl
+four false true false true false true false true = refl
+four false true false true false true false false = refl
+
+-- four numbers are below four others where the first that differs is
+pub lex_four : (a b c d e f g h : ℕ) → partial_lt (λ (x y : ℕ × ℕ × ℕ × ℕ). partial_ordering_then (partial_ordering_then (partial_ordering_then (as_partial_cmp nat_cmp x.0 y.0) (as_partial_cmp nat_cmp x.1 y.1)) (as_partial_cmp nat_cmp x.2 y.2)) (as_partial_cmp nat_cmp x.3 y.3)) (a, b, c, d) (e, f, g, h) ≡ lex (a ∷ b ∷ c ∷ d ∷ []) (e ∷ f ∷ g ∷ h ∷ [])
 unfolding lex
-lex_last a b = ⊎_elim (λ (e : a ≡ b). let q : b ≤ a = omega arith in lex_alike [] [] e ∙ sym (le-ltb a b q)) (λ (n : a ≡ b → ⊥). lex_other [] [] n) (eq? a b)
+lex_four a b c d e f g h = four (ltb a e) (eqb a e) (ltb b f) (eqb b f) (ltb c g) (eqb c g) (ltb d h) (eqb d h)

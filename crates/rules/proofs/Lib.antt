@@ -5,4 +5,3 @@ pub mod ByLengths
 pub mod Halving
 pub mod Neighbours
 pub mod Sorting
-pub mod Walks

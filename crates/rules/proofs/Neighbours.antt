@@ -10,7 +10,7 @@ use Rattle.meaning.specs.Words.{at, any_below}
 use Rattle.laws.specs.Bools.{clash, not_true}
 use Rattle.laws.specs.Counting.{below_of, of_below}
 use Rattle.order.specs.Lex.{trichotomy}
-use Rattle.rules.specs.Lined.{Lined, Next}
+use Rattle.rules.specs.Lined.{Lined, Next, related}
 
 pub lined_row : (R : ℕ → ℕ → Bool) (n : ℕ) (idx : List ℕ) → Lined R n idx → (p : ℕ) → p < length idx → at idx p < n
 lined_row R n idx L p h = L.row p (omega (arith, L.long))
@@ -21,10 +21,6 @@ skipped_more idx k i p f h x a b = ⊎_elim
     (λ (l : x < p). f x a l)
     (λ s. ⊎_elim (λ (e : x ≡ p). omega (arith, ap (at idx) e)) (λ (l : p < x). absurd (omega arith)) s)
     (trichotomy x p)
-
--- row i is related with an earlier row
-abbrev pub related : (ℕ → ℕ → Bool) → ℕ → Bool
-related R i = any_below (λ j. R j i) i
 
 -- the walk has come to place p: no two rows below k up to there are related
 pub record Passed (R : ℕ → ℕ → Bool) (n : ℕ) (idx : List ℕ) (k p : ℕ) : Type 0 where

@@ -1,5 +1,5 @@
 -- Rules 1 and 2 on lengths alone: the table that is refused, 0 where none is.
-use Rattle.std.specs.Prelude.{Bool, true, false, not, ℕ, eqb, ltb, length}
+use Rattle.std.specs.Prelude.{Bool, true, false, not, ℕ, zero, suc, eqb, ltb, length, Option, Some, None}
 use Rattle.meaning.specs.Words.{or}
 use Rattle.meaning.specs.Rows.{Tables}
 use Rattle.meaning.specs.Answer.{Answer, Limits, refuse}
@@ -58,6 +58,11 @@ large_table m nodes edges sites mutations =
     (table_if (ltb m.edges edges) 2
     (table_if (ltb m.sites sites) 3
     (table_if (ltb m.mutations mutations) 4 0)))
+
+-- the table that is refused, where it is no 0
+unfoldable pub table_of : ℕ → Option ℕ
+table_of zero = None
+table_of (suc t) = Some (suc t)
 
 -- the answer with the table's number as its row, where it is no 0
 abbrev pub refuse_table : ℕ → ℕ → Answer → Answer

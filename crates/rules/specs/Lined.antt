@@ -1,7 +1,11 @@
 -- Rows lined up by a sort, so that of the rows below any bound, related ones are found among neighbours.
 use Rattle.std.specs.Prelude.{◌≡◌, Bool, true, List, ℕ, ◌<◌, ◌≤◌, eqb, length}
-use Rattle.meaning.specs.Words.{at}
+use Rattle.meaning.specs.Words.{at, any_below}
 use Rattle.meaning.specs.Rows.{EdgeColumns}
+
+-- row i is related with an earlier row
+abbrev pub related : (ℕ → ℕ → Bool) → ℕ → Bool
+related R i = any_below (λ j. R j i) i
 
 -- the column has each of n rows once, and a row that is related with a later one is so with all in between
 pub record Lined (R : ℕ → ℕ → Bool) (n : ℕ) (idx : List ℕ) : Type 0 where

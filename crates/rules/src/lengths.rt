@@ -2,71 +2,71 @@
 ghost use Rattle.std.specs.Prelude.{◌≡◌};
 ghost use Rattle.meaning.specs.Answer.{limits};
 ghost use Rattle.meaning.specs.Check.{length_broken};
-ghost use Rattle.rules.specs.Lengths.{ragged_table, large_table};
+ghost use Rattle.rules.specs.Lengths.{large_table, table_of};
+ghost use Rattle.rules.specs.Evened.{Evened};
 
-use meaning::{Chromosome, EdgeTable, MutationTable, NodeTable, SiteTable};
+use meaning::columns::{Ages, EdgeColumns, Lent, MutationColumns, SiteColumns, Tables};
+use meaning::{Chromosome, Counts, EdgeTable, MutationTable, NodeTable, SiteTable};
 
-// 1: the lowest table whose columns differ in length, or 0.
-pub fn ragged_table(
-    time: usize,
-    birth: usize,
-    population: usize,
-    left: usize,
-    right: usize,
-    parent: usize,
-    child: usize,
-    position: usize,
-    ancestral: usize,
-    site: usize,
-    node: usize,
-    derived: usize,
-) -> usize
-    ensures { result ≡ ragged_table (record { time = time; birth = birth; population = population; left = left; right = right; parent = parent; child = child; position = position; ancestral = ancestral; site = site; node = node; derived = derived }) }
+// 1: the tables where no table's columns differ in length, and else the lowest table whose columns do.
+pub fn even(lent: Lent) -> Result<Tables, usize>
+    ensures { Evened lent.entry result }
 {
-    if birth != time {
-        return NodeTable::NUMBER;
+    if lent.birth.len() != lent.time.len() || lent.population.len() != lent.time.len() {
+        return Err(NodeTable::NUMBER);
     }
-    if population != time {
-        return NodeTable::NUMBER;
+    if lent.right.len() != lent.left.len()
+        || lent.parent.len() != lent.left.len()
+        || lent.child.len() != lent.left.len()
+    {
+        return Err(EdgeTable::NUMBER);
     }
-    if right != left {
-        return EdgeTable::NUMBER;
+    if lent.ancestral.len() != lent.position.len() {
+        return Err(SiteTable::NUMBER);
     }
-    if parent != left {
-        return EdgeTable::NUMBER;
+    if lent.node.len() != lent.site.len() || lent.derived.len() != lent.site.len() {
+        return Err(MutationTable::NUMBER);
     }
-    if child != left {
-        return EdgeTable::NUMBER;
-    }
-    if ancestral != position {
-        return SiteTable::NUMBER;
-    }
-    if node != site {
-        return MutationTable::NUMBER;
-    }
-    if derived != site {
-        return MutationTable::NUMBER;
-    }
-    0
+    Ok(Tables {
+        ages: Ages {
+            time: lent.time,
+            birth: lent.birth,
+        },
+        edges: EdgeColumns {
+            left: lent.left,
+            right: lent.right,
+            parent: lent.parent,
+            child: lent.child,
+        },
+        sites: SiteColumns {
+            position: lent.position,
+            ancestral: lent.ancestral,
+        },
+        mutations: MutationColumns {
+            site: lent.site,
+            node: lent.node,
+            derived: lent.derived,
+        },
+    })
 }
 
-// 2: the lowest table with too many rows, or 0.
-pub fn large_table(time: usize, left: usize, position: usize, site: usize) -> usize
-    ensures { result ≡ large_table limits time left position site }
+// 2: the lowest table with too many rows.
+pub fn large_table(rows: Counts) -> Option<usize>
+    ensures { result ≡ table_of (large_table limits rows.nodes rows.edges rows.sites rows.mutations) }
 {
-    if NodeTable::MOST < time {
-        return NodeTable::NUMBER;
+    if NodeTable::MOST < rows.nodes {
+        return Some(NodeTable::NUMBER);
     }
-    if EdgeTable::MOST < left {
-        return EdgeTable::NUMBER;
+    if EdgeTable::MOST < rows.edges {
+        return Some(EdgeTable::NUMBER);
     }
-    if SiteTable::MOST < position {
-        return SiteTable::NUMBER;
+    if SiteTable::MOST < rows.sites {
+        return Some(SiteTable::NUMBER);
     }
-    if MutationTable::MOST < site {
-        return MutationTable::NUMBER;
+    if MutationTable::MOST < rows.mutations {
+        return Some(MutationTable::NUMBER);
     }
-    0
+    None
 }
 
 // 3: whether the chromosome has no length or is too long.

@@ -7,12 +7,10 @@ pub fn next_below(idx: &[u32], k: usize, i: usize) -> usize
     requires { i ≤ length idx.now }
     ensures { Next idx.now k i result }
 {
-    let mut p = i;
-    while p < idx.len() {
+    for p in i..idx.len() {
         if (idx[p] as usize) < k {
             return p;
         }
-        p += 1;
     }
-    p
+    idx.len()
 }

@@ -1,34 +1,38 @@
 -- `overtaking::first_above` meets its contract: the working columns stand on the stack, and rule 10 by rows is the definition's.
-use mathlib.Core.Path.{refl, sym, ◌∙◌}
-use Rattle.overtaking.specs.Overtaken.{lowest_10}
+use mathlib.Core.Path.{◌≡◌, sym, ap, ◌∙◌}
+use mathlib.Core.List.{List}
+use Prim.Native.Nat.{ℕ}
+use lib.ListN.{length}
+use Rattle.std.specs.Prelude.{Option}
+use Rattle.meaning.specs.Words.{lowest_row, row_below}
+use Rattle.meaning.specs.Rows.{EdgeColumns, MutationColumns, edges_of}
+use Rattle.meaning.specs.Columns.{edges_in, mutations_in}
+use Rattle.meaning.specs.Check.{mutation_above}
+use Rattle.overtaking.specs.Overtaken.{overtaken, lowest_10}
 use Rattle.overtaking.proofs.OlderFirst.{none_overtaken}
 use Rattle.overtaking.proofs.Ready.{zeros}
 use native.Mathlib.Omega.{arith}
-use borrow.Author.Rules.{rules}
 use Rattle.overtaking.proofs.first_above.Goals as goal
 
-pub some_younger_first-requires : goal.some_younger_first-requires
-some_younger_first-requires c = (_, c.requires.7)
+-- the row found among the columns as one is that of the tables
+of_tables : (E : EdgeColumns) (M : MutationColumns) {position site node position' : List ℕ} {r : Option ℕ} → position ≡ position' → site ≡ M.site → node ≡ M.node → r ≡ lowest_row (overtaken E position site node) (length site) → r ≡ lowest_row (mutation_above (edges_of (λ x. x) E) position' (λ x. x) M) (length M.site)
+of_tables E M {position' = position'} p s n h = rw (p, s, n) at h ∙ ap (row_below (length M.site)) (lowest_10 E position' M (length M.site))
 
 pub returns-then-not-some_younger_first : goal.returns-then-not-some_younger_first
-returns-then-not-some_younger_first c = none_overtaken _ c.requires.7 (sym c.some_younger_first.ensures ∙ c.if-not-some_younger_first.true) _ c.requires.3 (λ i. omega (arith, c.type_inv.time i)) ∙ lowest_10 _ _ _ _
-
-pub fill_ends-requires : goal.fill_ends-requires
-fill_ends-requires c = (c.requires.3.even, c.requires.5, omega (arith, c.requires.1), search rules)
+returns-then-not-some_younger_first c =
+    let m = c.new-mutations in
+    of_tables (edges_in c.args.tables.edges) (mutations_in c.args.tables.mutations) m.ensures.position m.ensures.site m.ensures.node (none_overtaken _ m.result.ordered.lined (sym c.some_younger_first.ensures ∙ c.if-not-some_younger_first.true) _ (rw m.ensures.time c.requires.3) m.result.ordered.young)
 
 pub lowest_above-requires : goal.lowest_above-requires
 lowest_above-requires c = (
-  record { rising = c.requires.3; rightwards = c.requires.6; lined = c.requires.7; few = omega (arith, c.requires.0); few_sites = omega (arith, c.requires.2) },
   record {
-    indexed = record { even = c.requires.3.even; whole = c.requires.4; order = c.requires.5; ends = c.fill_ends.ensures };
-    ends_long = omega (arith, c.requires.0, c.fill_ends.auto.ends);
-    par_long = omega (arith, c.requires.0);
-    until_long = refl;
+    rising = rw c.new-mutations.ensures.time c.requires.3;
+    keeping = record { ends_long = omega (arith, c.requires.0, ap length c.new-mutations.ensures.time, c.fill_ends.auto.ends); par_long = omega (arith, c.requires.0, ap length c.new-mutations.ensures.time) };
+    stamps_long = omega (arith, c.requires.0, ap length c.new-mutations.ensures.time);
   },
-  omega (arith, c.requires.0),
   zeros 1024,
   zeros 1024,
 )
 
 pub returns : goal.returns
-returns c = c.lowest_above.ensures ∙ lowest_10 _ _ _ _
+returns c = let m = c.new-mutations in of_tables (edges_in c.args.tables.edges) (mutations_in c.args.tables.mutations) m.ensures.position m.ensures.site m.ensures.node c.lowest_above.ensures

@@ -1,33 +1,25 @@
 -- `least_above` meets its contract: as `lowest_above`, with the least of the rows found so far.
-use mathlib.Core.Path.{refl}
-use Prim.Native.Nat.{◌-◌}
+use mathlib.Core.Path.{sym, ap, ◌∙◌}
+use Rattle.meaning.specs.Words.{row_below}
 use native.Mathlib.Omega.{arith}
-use Rattle.overtaking.proofs.Knowing.{still_keeping}
-use Rattle.overtaking.proofs.Least.{least_start, least_next, least_is, least_stop}
-use Rattle.overtaking.proofs.Ready.{going_start, going_next}
-use borrow.Author.Rules.{rules}
+use Rattle.overtaking.proofs.Least.{least_start, least_hit, least_miss, least_stop, then_row}
+use Rattle.overtaking.proofs.Ready.{going_start, going_next, still_working}
+use Rattle.overtaking.proofs.stamps.least_above.Goals.{then-overtakes, else-overtakes}
 use Rattle.overtaking.proofs.stamps.least_above.Goals as goal
 
 pub loop-i-init : goal.loop-i-init
-loop-i-init c = (search rules, least_start _ _ _, refl, refl, refl, λ h. going_start _ _ _ c.requires.4 c.requires.5)
-
-pub overtakes-hit-requires : goal.overtakes-hit-requires
-overtakes-hit-requires c = (c.requires.0, still_keeping c.loop-i.invariant.2 c.loop-i.invariant.3 c.requires.1, omega (arith, c.requires.2, c.loop-i.invariant.4), c.loop-i-test.true, c.loop-i.invariant.5 c.loop-i-test.true)
-
-pub offset_bounds-row-i : goal.offset_bounds-row-i
-offset_bounds-row-i c = omega (arith, c.requires.3, c.loop-i-test.true)
-
-pub bounds-row-i : goal.bounds-row-i
-bounds-row-i c = omega (arith, c.requires.3, c.loop-i-test.true)
-
-pub overflow_cast-row : goal.overflow_cast-row
-overflow_cast-row c = omega (arith, c.type_inv.row c.loop-i.i)
-
-pub overflow_add-i : goal.overflow_add-i
-overflow_add-i c = omega (arith, c.loop-i-test.true)
+loop-i-init c = record {
+  least = least_start _ _ _;
+  working = c.requires.0;
+  going = λ h. going_start _ _ _ c.requires.2 c.requires.3;
+}
 
 pub loop-i-preserved : goal.loop-i-preserved
-loop-i-preserved c = (search rules, least_is c.lower_of-least.ensures (least_next c.loop-i.invariant.1 _ c.overtakes-hit.ensures.0), search rules, search rules, search rules, going_next c.requires.0 c.overtakes-hit.ensures.1)
+loop-i-preserved c = record {
+  least = elim c.if-overtakes.branch [ then-overtakes w ↦ least_hit c.loop-i.invariant.least _ (omega arith) (sym c.overtakes.ensures.answer ∙ w.if-overtakes.true) | else-overtakes w ↦ rw w.least-is (least_miss c.loop-i.invariant.least (sym c.overtakes.ensures.answer ∙ w.if-overtakes.false)) ];
+  working = still_working c.overtakes.ensures.long c.overtakes.auto.stamps c.loop-i.invariant.working;
+  going = going_next c.args.mutations.ordered c.overtakes.ensures.gone;
+}
 
 pub returns : goal.returns
-returns c = least_stop _ _ _ _ _ _ _ c.loop-i.invariant.0 c.loop-i-test.false c.loop-i.invariant.1
+returns c = c.then_some.ensures ∙ then_row _ _ ∙ ap (row_below _) (least_stop _ _ _ _ _ _ _ c.loop-i.auto.i-end c.loop-i-test.false c.loop-i.invariant.least)

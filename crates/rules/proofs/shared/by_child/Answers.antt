@@ -3,4 +3,4 @@ use Rattle.rules.proofs.Sorting.{edges_by_child}
 use Rattle.rules.proofs.shared.by_child.Goals as goal
 
 pub returns : goal.returns
-returns c = edges_by_child _ _ c.requires.1 c.line_up.ensures.0 c.line_up.ensures.1 c.requires.4
+returns c = edges_by_child _ _ c.requires.0 c.line_up.ensures.0 c.line_up.ensures.1 c.requires.3
