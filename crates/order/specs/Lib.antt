@@ -1,5 +1,6 @@
 -- What the sort promises, what its parts promise, and laws that equate what it leaves with the definitions' sort.
 pub mod Order
+pub mod Keyed
 pub mod Heap
 pub mod Lex
 pub mod Counts

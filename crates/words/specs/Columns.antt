@@ -1,6 +1,6 @@
 -- Columns of one block of words: word k * n + u of the block is row u of column k; after 16 columns come the edges' words.
-use Rattle.std.specs.Prelude.{◌≡◌, refl, Bool, true, false, not, List, [], ◌∷◌, ◌++◌, ◌⊎◌, ℕ, zero, suc, ◌+◌, ◌-◌, ◌*◌, ◌<◌, ◌≤◌, eqb, ltb, length, get_or, drop, set}
-use Rattle.std.proofs.Common.{sym, ◌∙◌, inl, inr, ⊎_elim, mul-le-mul_right, suc-mul, length-take, length-set, drop-set-lt, drop-drop, ltb-true, ltb-false, ne_eqb}
+use Rattle.std.specs.Prelude.{◌≡◌, refl, Bool, true, false, not, List, [], ◌∷◌, ℕ, suc, ◌+◌, ◌-◌, ◌*◌, ◌<◌, ◌≤◌, eqb, ltb, length, get_or, drop, set}
+use Rattle.std.proofs.Common.{sym, ◌∙◌, mul-le-mul_right, suc-mul, length-set, drop-set-lt, drop-drop, ltb-true, ltb-false, ne_eqb}
 use Rattle.std.proofs.Math.Path.{ap}
 use native.Mathlib.Omega.{arith}
 use Rattle.std.proofs.Math.ListN.{take, length-drop}

@@ -92,10 +92,8 @@ pub fn fill(words: &mut [u32], n: usize, k: usize, v: u32)
     ensures { (column k words.new n ≡ rows (λ u. v) n) × Only (k ∷ []) n words.old words.new }
 {
     let a = k * n;
-    let mut i = 0;
-    while i < n {
+    for i in 0..n {
         words[a + i] = v;
-        i += 1;
     }
 }
 
@@ -105,10 +103,8 @@ pub fn number(words: &mut [u32], n: usize, k: usize)
     ensures { (column k words.new n ≡ rows (λ u. u) n) × Only (k ∷ []) n words.old words.new }
 {
     let a = k * n;
-    let mut i = 0;
-    while i < n {
+    for i in 0..n {
         words[a + i] = i as u32;
-        i += 1;
     }
 }
 
@@ -118,10 +114,8 @@ pub fn fill_edges(words: &mut [u32], n: usize, m: usize, k: usize, v: u32)
     ensures { (edge k words.new n m ≡ rows (λ e. v) m) × Aside [] (k ∷ []) n m words.old words.new }
 {
     let a = NodeColumn::ALL * n + k * m;
-    let mut e = 0;
-    while e < m {
+    for e in 0..m {
         words[a + e] = v;
-        e += 1;
     }
 }
 
@@ -131,10 +125,8 @@ pub fn number_edges(words: &mut [u32], n: usize, m: usize, k: usize)
     ensures { (edge k words.new n m ≡ rows (λ e. e) m) × Aside [] (k ∷ []) n m words.old words.new }
 {
     let a = NodeColumn::ALL * n + k * m;
-    let mut e = 0;
-    while e < m {
+    for e in 0..m {
         words[a + e] = e as u32;
-        e += 1;
     }
 }
 
@@ -144,9 +136,7 @@ pub fn number_edges_down(words: &mut [u32], n: usize, m: usize, k: usize)
     ensures { (edge k words.new n m ≡ rows (λ e. m - (e + 1)) m) × Aside [] (k ∷ []) n m words.old words.new }
 {
     let a = NodeColumn::ALL * n + k * m;
-    let mut e = 0;
-    while e < m {
+    for e in 0..m {
         words[a + e] = (m - (e + 1)) as u32;
-        e += 1;
     }
 }

@@ -1,5 +1,4 @@
 -- `words::fill` meets its contract: each turn writes one row more.
-use Prim.Native.Nat.{◌-◌}
 use native.Mathlib.Omega.{arith}
 use borrow.Author.Rules.{rules}
 use Rattle.words.specs.Columns.{next_column}

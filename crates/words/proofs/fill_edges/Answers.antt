@@ -1,5 +1,4 @@
 -- `words::fill_edges` meets its contract: each turn writes one row more.
-use Prim.Native.Nat.{◌-◌}
 use native.Mathlib.Omega.{arith}
 use Rattle.words.specs.Columns.{next_column}
 use Rattle.words.proofs.Giving.{edges_start, edges_on, edges_all}

@@ -1,10 +1,6 @@
 -- `words::number` meets its contract: each turn writes one row more.
-use Prim.Native.Nat.{◌-◌}
 use Rattle.words.proofs.Giving.{Given}
 use Rattle.words.proofs.number.Given as goal
 
 abbrev pub invariant-loop-i : goal.invariant-loop-i
 invariant-loop-i l = Given (λ u. u) l.k l.n l.i l.initial.words l.words
-
-abbrev pub decreases-loop-i : goal.decreases-loop-i
-decreases-loop-i l = l.n - l.i

@@ -5,6 +5,3 @@ use Rattle.words.proofs.number_edges_down.Given as goal
 
 abbrev pub invariant-loop-e : goal.invariant-loop-e
 invariant-loop-e l = GivenEdges (λ e. l.m - (e + 1)) l.k l.n l.m l.e l.initial.words l.words
-
-abbrev pub decreases-loop-e : goal.decreases-loop-e
-decreases-loop-e l = l.m - l.e
