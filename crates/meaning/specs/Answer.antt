@@ -71,7 +71,7 @@ unfolding room
 lacks most out need = or (ltb most need) (ltb (room out) need)
 
 -- "the result stands at the front of each output, and cells past it keep their values"
-unfoldable pub put : List ℕ → List ℕ → List ℕ
+unfoldable pub put : {A : Type 0} → List A → List A → List A
 put new old = new ++ drop (length new) old
 
 -- "after a refusal .. all lent cells keep their values"

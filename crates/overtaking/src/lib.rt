@@ -90,7 +90,7 @@ pub fn least_row_above(
     if !mutations.some_younger_first() {
         return None;
     }
-    rules::shared::by_child(edges.left, edges.right, edges.parent, edges.child, by_child);
+    rules::shared::by_child(edges, by_child);
     let mut ends = [0u32; NodeTable::MOST];
     let mut par = [0u32; NodeTable::MOST];
     let mut until = [0u32; NodeTable::MOST];
