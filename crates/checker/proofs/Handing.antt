@@ -3,17 +3,17 @@ use mathlib.Core.Path.{◌≡◌, ap, ◌∙◌}
 use mathlib.Core.List.{List, ◌++◌}
 use Prim.Native.Nat.{ℕ, ◌≤◌}
 use native.Mathlib.Omega.{arith}
-use lib.ListN.{length, take, drop}
-use lib.Seq.{take_at, length-take-le, length_front}
-use Rattle.meaning.specs.Rows.{EdgeColumns, Tables}
-use Rattle.meaning.specs.Answer.{accepted, limits, checked_of}
+use lib.ListN.{length, take}
+use lib.Seq.{take_at, length-take-le}
+use Rattle.meaning.specs.Rows.{EdgeColumns}
+use Rattle.meaning.specs.Answer.{accepted, checked_of}
 use Rattle.meaning.specs.declared.Refusal.{Refusal}
 use Rattle.meaning.specs.Answer.{Checked}
 use Rattle.std.specs.Prelude.{Ok, Err}
 use Rattle.laws.specs.Bools.{clash}
 use Rattle.order.specs.Ranks.{Ranked}
 use Rattle.rules.specs.ByChild.{ByChild}
-use Rattle.checker.specs.Found.{Shaped, Sized, Ordered}
+use Rattle.checker.specs.Found.{Ordered}
 use Rattle.checker.proofs.After.{refused}
 
 module _ (birth : List ℕ) (E : EdgeColumns) (by_child by_birth : List ℕ) where
@@ -38,16 +38,9 @@ module _ (most n : ℕ) (by : List ℕ) (h : n ≤ most) (q : length by ≡ most
   pub front_long : length (take n by) ≡ n
   front_long = length-take-le n by front_fits
 
-  pub still_fits : (e : List ℕ) → length e ≡ length (take n by) → n ≤ length (e ++ drop n by)
-  still_fits e l = omega (arith, length_front by e n l)
-
 -- the order is that of the front
 pub front_order : (E : EdgeColumns) (by rest : List ℕ) → ByChild E by → ByChild E (take (length E.left) (by ++ rest))
 front_order E by rest b = rw (take_at by rest (length E.left) b.long) b
 
 pub front_ranked : (birth by rest : List ℕ) → Ranked birth by → Ranked birth (take (length birth) (by ++ rest))
 front_ranked birth by rest r = rw (take_at by rest (length birth) r.long) r
-
--- as many births as nodes fit
-pub births_few : (T : Tables) → Shaped T → Sized limits T → length T.nodes.birth ≤ 1024
-births_few T s z = omega (arith, s.birth_long, z.nodes)

@@ -6,11 +6,11 @@ use Prim.Native.Nat.{ℕ, suc, ◌<◌, ◌≤◌}
 use native.Mathlib.Omega.{arith}
 use lib.Dec.{eqb, leb, ltb}
 use lib.ListN.{length}
-use borrow.Author.Tests.{eq-eqb, leb-false, lt-ltb, ltb-true, ltb-false}
+use borrow.Author.Tests.{eq-eqb, leb-false, ltb-true, ltb-false}
 use Rattle.meaning.specs.Words.{or, at}
 use Rattle.meaning.specs.Rows.{EdgeColumns, MutationColumns, age_table}
-use Rattle.meaning.specs.Check.{repeated, edge_broken, share, edge_shared, not_above, site_broken, falls, mutation_broken}
-use Rattle.laws.specs.Bools.{clash, or_no, and_yes}
+use Rattle.meaning.specs.Check.{repeated, edge_broken, not_above, site_broken, falls, mutation_broken}
+use Rattle.laws.specs.Bools.{clash, or_no}
 use Rattle.laws.specs.Counting.{of_below}
 use Rattle.bridge.specs.Columns.{Apart}
 use Rattle.ancestry.specs.Column.{Rising}
@@ -52,10 +52,8 @@ edge_whole L time E i h =
 
 module _ (L : ℕ) (time : List ℕ) (E : EdgeColumns) (e : EvenEdges E) (h : (i : ℕ) → i < length E.left → edge_broken L time E i ≡ false) where
   -- rule 6: every edge row names node rows that exist
-  pub named : (birth : List ℕ) → length birth ≡ length time → NamedNodes (age_table time birth) E
-  named birth b = record {
-    birth_long = b;
-    even = e;
+  pub named : (birth : List ℕ) → NamedNodes (age_table time birth) E
+  named birth = record {
     parent_row = λ i l. (edge_whole L time E i (h i l)).parent_row;
     child_row-is = λ i l. (edge_whole L time E i (h i l)).child_row-is;
   }

@@ -1,10 +1,11 @@
 -- Rules 8 to 10: what they answer, by the rows that the searches gave; rule 10 is searched by rows and said by births.
-use mathlib.Core.Path.{◌≡◌, sym, ◌∙◌}
+use mathlib.Core.Path.{◌≡◌, sym, ap, ◌∙◌}
 use mathlib.Core.Bool.{Bool}
 use mathlib.Core.List.{List}
-use Prim.Native.Nat.{ℕ, ◌<◌, ◌≤◌}
+use Prim.Native.Nat.{ℕ}
 use lib.ListN.{length}
-use Rattle.meaning.specs.Words.{at, lowest}
+use Rattle.std.specs.Prelude.{Some, None}
+use Rattle.meaning.specs.Words.{at, lowest_row, row_below}
 use Rattle.meaning.specs.Rows.{Tables, edges_of}
 use Rattle.meaning.specs.Answer.{Answer, answer, done, refuse_row}
 use Rattle.meaning.specs.Check.{site_broken, mutation_broken, mutation_above, site_rules}
@@ -35,35 +36,33 @@ module _ (L : ℕ) (T : Tables) where
   abbrev after_8 : Answer
   after_8 = refuse_row 9 broken rows after_9
 
-  module _ (p : ℕ) (e : p ≡ lowest (site_broken L T.sites.position) (length T.sites.position)) where
-    pub site_refused : p < length T.sites.position → answer 8 p ≡ site_rules L T done
+  pub site_refused : (p : ℕ) → Some p ≡ lowest_row (site_broken L T.sites.position) (length T.sites.position) → answer 8 p ≡ site_rules L T done
+  unfolding site_rules
+  site_refused p e = sym (row_found (site_broken L position) 8 (length position) after_8 p e)
+
+  module _ (e : None ≡ lowest_row (site_broken L T.sites.position) (length T.sites.position)) where
+    past_8 : site_rules L T done ≡ after_8
     unfolding site_rules
-    site_refused l = sym (row_found (site_broken L position) 8 (length position) after_8 p e l)
+    past_8 = row_none (site_broken L position) 8 (length position) after_8 e
 
-    module _ (l : length T.sites.position ≤ p) (m : ℕ) (f : m ≡ lowest (mutation_broken (length T.sites.position) (length T.nodes.time) T.muts) (length T.muts.site)) where
-      past_8 : site_rules L T done ≡ after_8
-      unfolding site_rules
-      past_8 = row_none (site_broken L position) 8 (length position) after_8 p e l
+    pub mutation_refused : (m : ℕ) → Some m ≡ lowest_row (mutation_broken (length T.sites.position) (length T.nodes.time) T.muts) (length T.muts.site) → answer 9 m ≡ site_rules L T done
+    mutation_refused m f = sym (past_8 ∙ row_found broken 9 rows after_9 m f)
 
-      pub mutation_refused : m < length T.muts.site → answer 9 m ≡ site_rules L T done
-      mutation_refused k = sym (past_8 ∙ row_found broken 9 rows after_9 m f k)
+    module _ (f : None ≡ lowest_row (mutation_broken (length T.sites.position) (length T.nodes.time) T.muts) (length T.muts.site)) (sh : Shaped T) (tr : TreeSound L T.nodes T.edges) where
+      past_9 : site_rules L T done ≡ after_9
+      past_9 = past_8 ∙ row_none broken 9 rows after_9 f
 
-      module _ (k : length T.muts.site ≤ m) (sh : Shaped T) (tr : TreeSound L T.nodes T.edges) where
-        past_9 : site_rules L T done ≡ after_9
-        past_9 = past_8 ∙ row_none broken 9 rows after_9 m f k
+      mutations_lined : Lined (length T.sites.position) (length T.nodes.time) T.muts.site T.muts.node
+      mutations_lined = lined (length position) (length T.nodes.time) T.muts sh.node_long (none_found broken rows f)
 
-        mutations_lined : Lined (length T.sites.position) (length T.nodes.time) T.muts.site T.muts.node
-        mutations_lined = lined (length position) (length T.nodes.time) T.muts sh.node_long (none_found broken rows m f k)
+      edges_rise : Rising T.nodes.time T.edges
+      edges_rise = rising L T.nodes.time T.edges sh.edges tr.whole
 
-        edges_rise : Rising T.nodes.time T.edges
-        edges_rise = rising L T.nodes.time T.edges sh.edges tr.whole
+      by_births : lowest_row (mutation_above (edges_of (λ x. x) T.edges) T.sites.position (λ x. x) T.muts) (length T.muts.site) ≡ lowest_row (mutation_above (edges_of (at T.nodes.birth) T.edges) T.sites.position (at T.nodes.birth) T.muts) (length T.muts.site)
+      by_births = ap (row_below rows) (first_above_births T.nodes.time T.nodes.birth position T.edges T.muts sh.birth_long (apart T.nodes.birth tr.once) edges_rise mutations_lined)
 
-        module _ (a : ℕ) (g : a ≡ lowest (mutation_above (edges_of (λ x. x) T.edges) T.sites.position (λ x. x) T.muts) (length T.muts.site)) where
-          by_births : a ≡ lowest above rows
-          by_births = g ∙ first_above_births T.nodes.time T.nodes.birth position T.edges T.muts sh.birth_long (apart T.nodes.birth tr.once) edges_rise mutations_lined
+      pub above_refused : (a : ℕ) → Some a ≡ lowest_row (mutation_above (edges_of (λ x. x) T.edges) T.sites.position (λ x. x) T.muts) (length T.muts.site) → answer 10 a ≡ site_rules L T done
+      above_refused a g = sym (past_9 ∙ row_found above 10 rows done a (g ∙ by_births))
 
-          pub above_refused : a < length T.muts.site → answer 10 a ≡ site_rules L T done
-          above_refused h = sym (past_9 ∙ row_found above 10 rows done a by_births h)
-
-          pub none_refused : length T.muts.site ≤ a → done ≡ site_rules L T done
-          none_refused h = sym (past_9 ∙ row_none above 10 rows done a by_births h)
+      pub none_refused : None ≡ lowest_row (mutation_above (edges_of (λ x. x) T.edges) T.sites.position (λ x. x) T.muts) (length T.muts.site) → done ≡ site_rules L T done
+      none_refused g = sym (past_9 ∙ row_none above 10 rows done (g ∙ by_births))

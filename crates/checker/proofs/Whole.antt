@@ -1,20 +1,25 @@
 -- The groups put together: what a check of several groups answers, by the answers of its groups.
-use mathlib.Core.Path.{◌≡◌, sym, ap, ◌∙◌}
+use mathlib.Core.Path.{◌≡◌, refl, sym, ap, subst, ◌∙◌}
 use mathlib.Core.Bool.{true, false}
 use mathlib.Core.List.{List}
 use Prim.Native.Nat.{ℕ, ◌<◌, ◌≤◌}
 use lib.Dec.{ltb}
-use lib.ListN.{length}
+use lib.ListN.{length, take}
 use borrow.Author.Tests.{lt-ltb, le-ltb}
 use Rattle.meaning.specs.Rows.{NodeColumns, EdgeColumns, Tables}
-use Rattle.meaning.specs.Answer.{Answer, Limits, answer, done, refuse, checked_of}
+use Rattle.meaning.specs.Answer.{Answer, Limits, answer, done, limits, refuse, checked_of}
 use Rattle.meaning.specs.Check.{length_broken, shapes, sizes, tree_rules, site_rules, rules, check_then, sample_rules, check_all_then, check}
 use Rattle.meaning.specs.declared.Refusal.{Refusal}
 use Rattle.meaning.specs.Answer.{Checked}
 use Rattle.std.specs.Prelude.{Ok, Err}
-use Rattle.rules.specs.Lengths.{lengths_of, ragged_table, large_table, refuse_table}
+use Rattle.rules.specs.Lengths.{lengths_of, ragged_table, refuse_table}
 use Rattle.rules.proofs.ByLengths.{shapes_by_lengths, sizes_by_lengths}
-use Rattle.checker.specs.Found.{Shaped, Sized, TreeSound}
+use Rattle.meaning.specs.declared.columns.Lent.{Lent}
+use Rattle.meaning.specs.declared.columns.Tables as Code
+use Rattle.meaning.specs.Columns.{lent_in, tables_in}
+use Rattle.rules.specs.Evened.{aged_in}
+use Rattle.checker.specs.Found.{Shaped, Sized, TreeSound, Ordered}
+use Rattle.checker.specs.Evened.{table_answer}
 use Rattle.checker.specs.Aged.{aged, rules_aged, shaped_aged, sized_aged}
 use Rattle.checker.proofs.Order.{refuse_yes, refuse_no}
 use Rattle.checker.proofs.After.{Hands, hands, stops, goes_on, was_sound, shapes_after, sizes_after, tree_after, rules_after}
@@ -24,10 +29,6 @@ use Rattle.checker.proofs.Sound.{shapes_sound, sizes_sound, tree_sound}
 
 abbrev pub length_rules : Limits → Tables → Answer → Answer
 length_rules m T rest = shapes T (sizes m T rest)
-
--- their answer by lengths
-abbrev pub table_answer : Limits → Tables → Answer
-table_answer m T = refuse_table 1 (ragged_table (lengths_of T)) (refuse_table 2 (large_table m (length T.nodes.time) (length T.edges.left) (length T.sites.position) (length T.muts.site)) done)
 
 module _ (m : Limits) (T : Tables) (s : Checked) (e : checked_of s ≡ table_answer m T) where
   by_lengths : checked_of s ≡ length_rules m T done
@@ -116,3 +117,22 @@ module _ (m : Limits) (L : ℕ) (T : Tables) (S : List ℕ) (s : Checked) (e : c
 
     pub all_last : length S ≤ m.samples → (u : Checked) → checked_of u ≡ rules L (aged T) (sample_rules T.nodes.birth S done) → checked_of u ≡ check m L T S
     all_last l u g = g ∙ rules_aged L T (sample_rules T.nodes.birth S done) ∙ sym (past_lengths ∙ refuse_no 2 5 sampled (le-ltb m.samples (length S) l))
+
+-- ---- tables as lent, which are gone on with where 1 and 2 refuse nothing
+
+module _ (l : Lent) (t : Code.Tables) (h : (table_answer limits (lent_in l) ≡ done) × (tables_in t ≡ aged_in l)) where
+  pub lent_sized : Sized limits (tables_in t)
+  lent_sized = let z : Sized limits (aged_in l) = (lengths_found limits (lent_in l) (Ok tt) (sym h.0) refl).1 in subst (Sized limits) (sym h.1) z
+
+  module _ (L : ℕ) (r : Checked) (by_child by_birth : List ℕ) where
+    -- the orders are those of the tables lent
+    abbrev Left : (Tables → Answer) → Tables → Type 0
+    Left G T = (checked_of r ≡ G T) × Ordered r T.nodes.birth T.edges (take (length T.edges.left) by_child) (take (length T.nodes.birth) by_birth)
+
+    pub lent_rules : Left (λ T. rules L T done) (tables_in t) → Left (λ T. check_then limits L T done) (lent_in l)
+    lent_rules f = let g : Left (λ T. rules L T done) (aged_in l) = subst (Left (λ T. rules L T done)) h.1 f in
+        (rules_last limits L (lent_in l) (Ok tt) (sym h.0) refl r g.0, g.1)
+
+    pub lent_all : (S : List ℕ) → length S ≤ limits.samples → Left (λ T. rules L T (sample_rules T.nodes.birth S done)) (tables_in t) → Left (λ T. check limits L T S) (lent_in l)
+    lent_all S k f = let g : Left (λ T. rules L T (sample_rules T.nodes.birth S done)) (aged_in l) = subst (Left (λ T. rules L T (sample_rules T.nodes.birth S done))) h.1 f in
+        (all_last limits L (lent_in l) S (Ok tt) (sym h.0) refl k r g.0, g.1)

@@ -5,7 +5,7 @@ use Rattle.meaning.specs.Rows.{NodeColumns, EdgeColumns, Tables, edges_of}
 use Rattle.meaning.specs.Answer.{Limits}
 use Rattle.meaning.specs.Check.{repeated, edge_broken, edge_unordered, edge_shared, site_broken, mutation_broken, mutation_above, sample_unknown, length_broken}
 use Rattle.meaning.specs.Answer.{Checked}
-use Rattle.std.specs.Prelude.{Ok, Err}
+use Rattle.std.specs.Prelude.{Ok}
 use Rattle.order.specs.Ranks.{Ranked}
 use Rattle.meaning.specs.Even.{EvenEdges}
 use Rattle.rules.specs.ByChild.{ByChild}

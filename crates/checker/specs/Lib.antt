@@ -2,3 +2,4 @@
 pub mod Found
 pub mod Then
 pub mod Aged
+pub mod Evened

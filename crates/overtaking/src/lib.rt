@@ -67,8 +67,45 @@ pub fn first_above(len: u32, tables: Tables, by_child: &[u32]) -> Option<usize>
     stamps::lowest_above(index, mutations, &mut kept, &mut stamps)
 }
 
-// The same of mutations with their rows beside them: the lowest of those rows. The edges are not by child yet, and by_child is a working
-// column. Where each site's mutations stand older first the edges are left alone.
+// The same of mutations with their rows beside them: the lowest of those rows. Its working columns stand on the stack, so it is apart from
+// the sort that puts the edges by child.
+fn least_by_child(
+    len: u32,
+    edges: EdgeColumns,
+    by_child: &[u32],
+    mutations: BySite,
+    row: &[u32],
+) -> Option<usize>
+    requires { (length mutations.time.now ≤ limits.nodes) ×
+        (length edges.left.now ≤ limits.edges) ×
+        Rising mutations.time.now (edges_in edges) ×
+        Whole (edges_in edges) len ×
+        ByChild (edges_in edges) by_child.now ×
+        (length row.now ≡ length mutations.site.now) }
+    ensures { result
+        ≡ lowest_row (overtaken_row (edges_in edges.entry) mutations.entry.position.now mutations.entry.site.now mutations.entry.node.now
+        row.now) (length mutations.entry.site.now) }
+{
+    let mut ends = [0u32; NodeTable::MOST];
+    let mut par = [0u32; NodeTable::MOST];
+    let mut until = [0u32; NodeTable::MOST];
+    let mut stamps = [0u32; NodeTable::MOST];
+    ancestry::index::fill_ends(edges, by_child, &mut ends);
+    let index = EdgeIndex {
+        len,
+        edges,
+        by_child,
+        ends: &ends,
+    };
+    let mut kept = Kept {
+        par: &mut par,
+        until: &mut until,
+    };
+    stamps::least_above(index, mutations, row, &mut kept, &mut stamps)
+}
+
+// The same of edges that are not by child yet; by_child is a working column. Where each site's mutations stand older first the edges are
+// left alone.
 pub fn least_row_above(
     len: u32,
     edges: EdgeColumns,
@@ -91,20 +128,5 @@ pub fn least_row_above(
         return None;
     }
     rules::shared::by_child(edges, by_child);
-    let mut ends = [0u32; NodeTable::MOST];
-    let mut par = [0u32; NodeTable::MOST];
-    let mut until = [0u32; NodeTable::MOST];
-    let mut stamps = [0u32; NodeTable::MOST];
-    ancestry::index::fill_ends(edges, by_child, &mut ends);
-    let index = EdgeIndex {
-        len,
-        edges,
-        by_child,
-        ends: &ends,
-    };
-    let mut kept = Kept {
-        par: &mut par,
-        until: &mut until,
-    };
-    stamps::least_above(index, mutations, row, &mut kept, &mut stamps)
+    least_by_child(len, edges, by_child, mutations, row)
 }

@@ -3,21 +3,8 @@ use Rattle.std.proofs.Common.{sym, ap, ◌∙◌}
 use Rattle.laws.specs.Passing.{passed_on}
 use Rattle.meaning.specs.Answer.{checked_of}
 use Rattle.checker.proofs.Whole.{rules_refused, samples_last}
-use Rattle.checker.proofs.Handing.{refusal_hands, order_hands, births_few}
-use native.Mathlib.Omega.{arith}
+use Rattle.checker.proofs.Handing.{refusal_hands, order_hands}
 use Rattle.checker.proofs.all_rules_checked.Goals as goal
-
-pub rules_checked-requires : goal.rules_checked-requires
-rules_checked-requires c = (c.requires.0, c.requires.1, c.requires.3, c.requires.4)
-
-pub slice_bounds-samples_checked-end : goal.slice_bounds-samples_checked-end
-slice_bounds-samples_checked-end c = omega (arith, births_few _ c.requires.0 c.requires.1, c.requires.4, c.rules_checked.auto.by_birth)
-
-pub slice_bounds-samples_checked-end-2 : goal.slice_bounds-samples_checked-end-2
-slice_bounds-samples_checked-end-2 c = sym (c.rules_checked.ensures.1.births c.in_ok-rules_checked.was).long
-
-pub samples_checked-requires : goal.samples_checked-requires
-samples_checked-requires c = (c.rules_checked.ensures.1.births c.in_ok-rules_checked.was, c.requires.2)
 
 pub returns-in_err-rules_checked : goal.returns-in_err-rules_checked
 returns-in_err-rules_checked c = let q : _ = passed_on c.from_residual.ensures.1 in

@@ -4,14 +4,14 @@ use Rattle.meaning.specs.Check.{sample_rules}
 use Rattle.checker.proofs.Order.{row_found, row_none}
 use Rattle.checker.proofs.groups.samples_checked.Goals as goal
 
-pub returns-then-u-samples : goal.returns-then-u-samples
+pub returns-in-Some : goal.returns-in-Some
 unfolding sample_rules
-returns-then-u-samples c = sym (row_found _ _ _ _ _ c.first_unknown-u.ensures c.if-u-samples.true)
+returns-in-Some c = sym (row_found _ _ _ _ _ c.in-Some.ensures)
 
-pub returns-then-s-samples : goal.returns-then-s-samples
+pub returns-in-Some-first_twice : goal.returns-in-Some-first_twice
 unfolding sample_rules
-returns-then-s-samples c = sym (row_none _ _ _ _ _ c.first_unknown-u.ensures c.if-u-samples.false ∙ row_found _ _ _ _ _ c.first_twice-s.ensures c.if-s-samples.true)
+returns-in-Some-first_twice c = sym (row_none _ _ _ _ c.in_default.ensures ∙ row_found _ _ _ _ _ c.in-Some-first_twice.ensures)
 
 pub returns : goal.returns
 unfolding sample_rules
-returns c = sym (row_none _ _ _ _ _ c.first_unknown-u.ensures c.if-u-samples.false ∙ row_none _ _ _ _ _ c.first_twice-s.ensures c.if-s-samples.false)
+returns c = sym (row_none _ _ _ _ c.in_default.ensures ∙ row_none _ _ _ _ c.in_default-first_twice.ensures)

@@ -1,23 +1,31 @@
 -- `sites_checked` meets its contract: each way out is one rule, and rule 10 is asked of rows that rules 5, 7, 8 and 9 have passed.
+use Rattle.checker.specs.Evened.{shaped}
 use Rattle.checker.proofs.Order.{none_found}
 use Rattle.checker.proofs.Rows.{rising, whole, rightwards, lined}
 use Rattle.checker.proofs.Sites.{site_refused, mutation_refused, above_refused, none_refused}
 use Rattle.checker.proofs.groups.sites_checked.Goals as goal
 
-pub returns-then-p-position : goal.returns-then-p-position
-returns-then-p-position c = site_refused _ _ _ c.first_broken_site-p.ensures c.if-p-position.true
+pub returns-in-Some : goal.returns-in-Some
+returns-in-Some c = site_refused _ _ _ c.in-Some.ensures
 
-pub first_broken_mutation-m-requires : goal.first_broken_mutation-m-requires
-first_broken_mutation-m-requires c = c.requires.0.node_long
+pub returns-in-Some-first_broken_mutation : goal.returns-in-Some-first_broken_mutation
+returns-in-Some-first_broken_mutation c = mutation_refused _ _ c.in_default.ensures _ c.in-Some-first_broken_mutation.ensures
 
-pub returns-then-m-site : goal.returns-then-m-site
-returns-then-m-site c = mutation_refused _ _ _ c.first_broken_site-p.ensures c.if-p-position.false _ c.first_broken_mutation-m.ensures c.if-m-site.true
+pub first_above-requires : goal.first_above-requires
+first_above-requires c =
+    let t = c.args.tables in (
+      c.requires.0.nodes,
+      c.requires.0.edges,
+      c.requires.0.sites,
+      rising _ _ _ t.edges.even c.requires.1.whole,
+      whole _ _ _ t.edges.even c.requires.1.whole,
+      c.requires.2,
+      rightwards _ _ (none_found _ _ c.in_default.ensures),
+      lined _ _ _ t.mutations.even.node_long (none_found _ _ c.in_default-first_broken_mutation.ensures),
+    )
 
-pub first_above-a-requires : goal.first_above-a-requires
-first_above-a-requires c = (c.requires.1.nodes, c.requires.1.edges, c.requires.1.sites, rising _ _ _ c.requires.0.edges c.requires.2.whole, whole _ _ _ c.requires.0.edges c.requires.2.whole, c.requires.3, rightwards _ _ (none_found _ _ _ c.first_broken_site-p.ensures c.if-p-position.false), lined _ _ _ c.requires.0.node_long (none_found _ _ _ c.first_broken_mutation-m.ensures c.if-m-site.false))
-
-pub returns-then-a-site : goal.returns-then-a-site
-returns-then-a-site c = above_refused _ _ _ c.first_broken_site-p.ensures c.if-p-position.false _ c.first_broken_mutation-m.ensures c.if-m-site.false c.requires.0 c.requires.2 _ c.first_above-a.ensures c.if-a-site.true
+pub returns-in-Some-first_above : goal.returns-in-Some-first_above
+returns-in-Some-first_above c = above_refused _ _ c.in_default.ensures c.in_default-first_broken_mutation.ensures (shaped c.args.tables) c.requires.1 _ c.in-Some-first_above.ensures
 
 pub returns : goal.returns
-returns c = none_refused _ _ _ c.first_broken_site-p.ensures c.if-p-position.false _ c.first_broken_mutation-m.ensures c.if-m-site.false c.requires.0 c.requires.2 _ c.first_above-a.ensures c.if-a-site.false
+returns c = none_refused _ _ c.in_default.ensures c.in_default-first_broken_mutation.ensures (shaped c.args.tables) c.requires.1 c.in_default-first_above.ensures

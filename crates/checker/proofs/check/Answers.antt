@@ -1,5 +1,0 @@
--- `check` meets its contract: the columns of the two orders stand on the stack.
-use Rattle.checker.proofs.check.Goals as goal
-
-pub returns : goal.returns
-returns c = c.check_all_lent.ensures.0
