@@ -10,14 +10,13 @@ use Rattle.meaning.specs.Words.{at}
 use Rattle.meaning.specs.Rows.{EdgeColumns}
 use Rattle.laws.specs.Bools.{eq?, some_inj, none_some}
 use Rattle.bridge.specs.Parents.{code, parent_row}
-use Rattle.meaning.specs.Even.{EvenEdges}
 use Rattle.ancestry.specs.Index.{begins, Indexed}
 use Rattle.ancestry.specs.Stretch.{until, stretch_at}
 use Rattle.ancestry.specs.Holds.{until_is}
 use Rattle.ancestry.specs.Decided.{parent_decided, none_decided}
 use Rattle.ancestry.specs.Lookup.{Places, Lefts, After, gap_end, none_until, Carried}
 use Rattle.ancestry.specs.declared.Stretch.{Stretch}
-use Rattle.ancestry.proofs.Finding.{gap_next, gap_over, place_right, place_parent}
+use Rattle.ancestry.proofs.Finding.{gap_next, gap_over}
 
 -- a is below b or from b on
 below? : (a b : ℕ) → (a < b) ⊎ (b ≤ a)
@@ -114,15 +113,8 @@ module _ (E : EdgeColumns) (L : ℕ) (by : List ℕ) (u low high : ℕ) (ok : Pl
   lefts r h k = record { inside = ok.inside; order = k; row = λ p g m. ok.row p (omega arith) m; rise = λ p q g m n. rise p q (omega arith) m n }
 
   -- an edge of the row stands before place r
-  module _ (r : ℕ) (v : EvenEdges E) (h : low < r) (k : r ≤ high) where
-    pub before_right : (r - 1 < length by) × (at by (r - 1) < length E.right)
-    before_right = place_right E v by low high (lefts low (omega arith) ok.order) (r - 1) (omega arith) (omega arith)
-
-    pub before_parent : (r - 1 < length by) × (at by (r - 1) < length E.parent)
-    before_parent = place_parent E v by low high (lefts low (omega arith) ok.order) (r - 1) (omega arith) (omega arith)
-
-    pub from_before : Lefts E.left by (r - 1) high × (r - 1 < high)
-    from_before = (lefts (r - 1) (omega arith) (omega arith), omega arith)
+  pub from_before : (r : ℕ) → low < r → r ≤ high → Lefts E.left by (r - 1) high × (r - 1 < high)
+  from_before r h k = (lefts (r - 1) (omega arith) (omega arith), omega arith)
 
   -- ---- the parent at a position
 

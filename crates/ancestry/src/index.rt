@@ -35,8 +35,8 @@ pub fn fill_ends(edges: EdgeColumns, by_child: &[u32], ends: &mut [u32])
     ensures { Ends edges.entry.child.now by_child.now ends.new }
 {
     let mut i = 0;
-    for u in 0..ends.len() {
+    for (u, end) in ends.iter_mut().enumerate() {
         i = skip(edges.child, by_child, u as u32, i);
-        ends[u] = i as u32;
+        *end = i as u32;
     }
 }

@@ -1,4 +1,5 @@
 -- What the functions that write tables ask, from what the stages before them leave, and what they leave together.
+use mathlib.Core.Bool.{false}
 use mathlib.Core.Path.{◌≡◌, sym, ap, ◌∙◌}
 use mathlib.Core.List.{List, map}
 use Prim.Native.Nat.{ℕ, ◌≤◌}
@@ -7,7 +8,7 @@ use lib.ListN.{length, take}
 use Rattle.meaning.specs.Words.{at}
 use Rattle.meaning.specs.Rows.{EdgeColumns, SiteColumns, MutationColumns, Tables}
 use Rattle.meaning.specs.Forest.{stands}
-use Rattle.meaning.specs.Answer.{answer, done, limits, put}
+use Rattle.meaning.specs.Answer.{Answer, answer, done, accepted, limits, put}
 use Rattle.meaning.specs.Lent.{put_all, no_rows_written}
 use Rattle.meaning.specs.Clean.{cleaned, node_map}
 use Rattle.bridge.specs.Columns.{Apart}
@@ -16,12 +17,14 @@ use Rattle.order.specs.Ranks.{Ranked}
 use Rattle.keys.specs.Keys.{InTurns}
 use Rattle.byrows.specs.Rows.{sample_rows}
 use Rattle.byrows.specs.Ground.{once}
-use Rattle.writing.specs.Room.{Needs, Lent, lent_by, room_of}
+use Rattle.writing.specs.declared.Needs.{Needs}
+use Rattle.writing.specs.declared.Lengths.{Lengths}
+use Rattle.writing.specs.Room.{lent_by}
 use Rattle.writing.specs.Block.{room_within}
 use Rattle.cleaner.specs.Sweeping.{Sweepable}
 use Rattle.cleaner.specs.Work.{Work, input_in, Ready}
 use Rattle.cleaner.specs.Outcome.{after_check}
-use Rattle.cleaner.specs.Fitting.{RoomFor, room_for, room_zero, stored_refused, stored_done}
+use Rattle.cleaner.specs.Fitting.{RoomFor, room_for, stored_refused, stored_done}
 use Rattle.cleaner.specs.Finishing.{Fillable, Filled}
 use Rattle.cleaner.specs.Lists.{RoomForLists, ListsWritten}
 use Rattle.cleaner.specs.Results.{counted, kept_inside, times_is, births_is, populations_is, places_is, sites_is, parents_rows, children_rows, turns, listed_rows}
@@ -103,7 +106,7 @@ module _ {L : ℕ} {T : Tables} {S : List ℕ} {W : Work} (r : Ready L T S W) wh
 
   -- ---- all tables
 
-  pub nodes_ready : {n : Needs} {l : Lent} → n.nodes ≡ W.nodes → RoomFor n l → (W.nodes ≤ length W.kept) × (W.nodes ≤ l.time) × (W.nodes ≤ l.birth) × (W.nodes ≤ l.population) × Inside (length T.nodes.time) (take W.nodes W.kept) × (length T.nodes.birth ≡ length T.nodes.time) × (length T.nodes.population ≡ length T.nodes.time)
+  pub nodes_ready : {n : Needs} {l : Lengths} → n.nodes ≡ W.nodes → RoomFor n l → (W.nodes ≤ length W.kept) × (W.nodes ≤ l.time) × (W.nodes ≤ l.birth) × (W.nodes ≤ l.population) × Inside (length T.nodes.time) (take W.nodes W.kept) × (length T.nodes.birth ≡ length T.nodes.time) × (length T.nodes.population ≡ length T.nodes.time)
   nodes_ready e room = (r.kept_long, omega (arith, room.time), omega (arith, room.birth), omega (arith, room.population), kept_inside L T S W r, r.footing.sound.shape.births, r.footing.sound.shape.populations)
 
   pub states_even : length T.sites.ancestral ≡ length T.sites.position
@@ -137,19 +140,19 @@ module _ {L : ℕ} {T : Tables} {S : List ℕ} {W : Work} (r : Ready L T S W) (o
   counts = record { nodes = W.nodes; edges = W.store.count; sites = length T.sites.position; mutations = W.moves.count; rows = length T.nodes.time }
 
   -- a table without room: nothing is written
-  pub refused_after : (t : ℕ) → (t ≡ 0 → ⊥) → room_of t ≡ room_within counts (lent_by out out_map) cells → record { answer = answer 13 t; counts = no_rows_written; cells = out; map = out_map } ≡ after_check L T S out out_map cells
+  pub refused_after : (a : Answer) → accepted a ≡ false → a ≡ room_within counts (lent_by out out_map) cells → record { answer = a; counts = no_rows_written; cells = out; map = out_map } ≡ after_check L T S out out_map cells
   unfolding after_check
-  refused_after t z e = stored_refused (cleaned stands L T S) (node_map stands L T S) counts (counted L T S W r) out out_map cells t z e
+  refused_after a z e = stored_refused (cleaned stands L T S) (node_map stands L T S) counts (counted L T S W r) out out_map cells a z e
 
   -- all fits, and each table is written
-  pub done_after : (t : ℕ) → t ≡ 0 → room_of t ≡ room_within counts (lent_by out out_map) cells → (out' : Tables) (out_map' : List ℕ) → out'.nodes.time ≡ put (map (at T.nodes.time) (take W.nodes W.kept)) out.nodes.time → out'.nodes.birth ≡ put (map (at T.nodes.birth) (take W.nodes W.kept)) out.nodes.birth → out'.nodes.population ≡ put (map (at T.nodes.population) (take W.nodes W.kept)) out.nodes.population → out'.sites.position ≡ put T.sites.position out.sites.position → out'.sites.ancestral ≡ put T.sites.ancestral out.sites.ancestral → ListsWritten (cleaned stands L T S) out.edges out'.edges out.muts out'.muts → out_map' ≡ put (take (length T.nodes.time) W.places) out_map → record { answer = done; counts = record { nodes = W.nodes; edges = W.store.count; sites = length T.sites.position; mutations = W.moves.count }; cells = out'; map = out_map' } ≡ after_check L T S out out_map cells
+  pub done_after : room_within counts (lent_by out out_map) cells ≡ done → (out' : Tables) (out_map' : List ℕ) → out'.nodes.time ≡ put (map (at T.nodes.time) (take W.nodes W.kept)) out.nodes.time → out'.nodes.birth ≡ put (map (at T.nodes.birth) (take W.nodes W.kept)) out.nodes.birth → out'.nodes.population ≡ put (map (at T.nodes.population) (take W.nodes W.kept)) out.nodes.population → out'.sites.position ≡ put T.sites.position out.sites.position → out'.sites.ancestral ≡ put T.sites.ancestral out.sites.ancestral → ListsWritten (cleaned stands L T S) out.edges out'.edges out.muts out'.muts → out_map' ≡ put (take (length T.nodes.time) W.places) out_map → record { answer = done; counts = record { nodes = W.nodes; edges = W.store.count; sites = length T.sites.position; mutations = W.moves.count }; cells = out'; map = out_map' } ≡ after_check L T S out out_map cells
   unfolding after_check
-  done_after t z e out' out_map' a b p c d l v = stored_done (cleaned stands L T S) (node_map stands L T S) counts (counted L T S W r) out out_map cells t z e out' out_map' (all_written r out out' a b p c d l) (map_written r out_map out_map' v)
+  done_after e out' out_map' a b p c d l v = stored_done (cleaned stands L T S) (node_map stands L T S) counts (counted L T S W r) out out_map cells e out' out_map' (all_written r out out' a b p c d l) (map_written r out_map out_map' v)
 
 -- a room test that finds nothing lacking leaves room for all
-pub room_left : (n : Needs) (l : Lent) (cells t : ℕ) → t ≡ 0 → room_of t ≡ room_within n l cells → RoomFor n l
-room_left n l cells t z e = room_for n l cells (room_zero t n l cells z e)
+pub room_left : (n : Needs) (l : Lengths) (cells : ℕ) → done ≡ room_within n l cells → RoomFor n l
+room_left n l cells e = room_for n l cells (sym e)
 
 -- the room for tables 2 and 4 is part of the room for all
-pub lists_room : {n : Needs} {l : Lent} {E : EdgeColumns} {M : MutationColumns} → RoomFor n l → l.left ≡ length E.left → l.right ≡ length E.right → l.parent ≡ length E.parent → l.child ≡ length E.child → l.site ≡ length M.site → l.node ≡ length M.node → l.derived ≡ length M.derived → RoomForLists n.edges n.mutations E M
+pub lists_room : {n : Needs} {l : Lengths} {E : EdgeColumns} {M : MutationColumns} → RoomFor n l → l.left ≡ length E.left → l.right ≡ length E.right → l.parent ≡ length E.parent → l.child ≡ length E.child → l.site ≡ length M.site → l.node ≡ length M.node → l.derived ≡ length M.derived → RoomForLists n.edges n.mutations E M
 lists_room r a b c d e f g = record { edges_few = r.edges_few; left = omega (arith, r.left); right = omega (arith, r.right); parent = omega (arith, r.parent); child = omega (arith, r.child); site = omega (arith, r.site); node = omega (arith, r.node); derived = omega (arith, r.derived) }

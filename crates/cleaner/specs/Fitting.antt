@@ -11,11 +11,13 @@ use Rattle.meaning.specs.Clean.{clean_end, clean_fit}
 use Rattle.laws.specs.Bools.{or_no, or_left}
 use Rattle.accepted.specs.Refusals.{Accepted, passed}
 use Rattle.accepted.specs.Endings.{clean_refused, clean_done}
-use Rattle.writing.specs.Room.{Needs, Lent, needs_of, lent_by, room_of}
+use Rattle.writing.specs.declared.Needs.{Needs}
+use Rattle.writing.specs.declared.Lengths.{Lengths}
+use Rattle.writing.specs.Room.{needs_of, lent_by}
 use Rattle.writing.specs.Block.{room_within, room_within-is}
 
 -- the rows keep to the limits, and each column has a cell for each
-pub record RoomFor (n : Needs) (l : Lent) : Type 0 where
+pub record RoomFor (n : Needs) (l : Lengths) : Type 0 where
   pub edges_few : n.edges ≤ limits.edges
   pub time : n.nodes ≤ l.time
   pub birth : n.nodes ≤ l.birth
@@ -31,11 +33,6 @@ pub record RoomFor (n : Needs) (l : Lent) : Type 0 where
   pub derived : n.mutations ≤ l.derived
   pub nodemap : n.rows ≤ l.nodemap
 
--- no table lacks room where the code finds 0
-pub room_zero : (t : ℕ) (n : Needs) (l : Lent) (cells : ℕ) → t ≡ 0 → room_of t ≡ room_within n l cells → room_within n l cells ≡ done
-unfolding room_of
-room_zero t n l cells z e = sym e ∙ ap room_of z
-
 -- one table passed: its room, and what comes after
 table : (most room need t : ℕ) (rest : Answer) → Accepted (refuse (or (ltb most need) (ltb room need)) 13 t rest) → ((need ≤ most) × (need ≤ room)) × Accepted rest
 table most room need t rest h =
@@ -43,7 +40,7 @@ table most room need t rest h =
     let q : _ = or_no (ltb most need) (ltb room need) p.0 in
     ((ltb-false most need q.0, ltb-false room need q.1), p.1)
 
-pub room_for : (n : Needs) (l : Lent) (cells : ℕ) → room_within n l cells ≡ done → RoomFor n l
+pub room_for : (n : Needs) (l : Lengths) (cells : ℕ) → room_within n l cells ≡ done → RoomFor n l
 unfolding room_within accepted
 room_for n l cells e =
     let h : Accepted (room_within n l cells) = ap accepted e in
@@ -92,7 +89,7 @@ module _ (new : Tables) (new_map : List ℕ) (n : Needs) (h : Counted new new_ma
   unfolding clean_fit room_within
   fit_answer out out_map cells = room_within-is new new_map out out_map cells ∙ same
     where
-      l : Lent
+      l : Lengths
       l = lent_by out out_map
 
       same : room_within (needs_of new new_map) l cells ≡ room_within n l cells
@@ -105,15 +102,12 @@ module _ (new : Tables) (new_map : List ℕ) (n : Needs) (h : Counted new new_ma
 
   module _ (out : Tables) (out_map : List ℕ) (cells : ℕ) where
     -- a table without room: nothing is written
-    pub stored_refused : (t : ℕ) → (t ≡ 0 → ⊥) → room_of t ≡ room_within n (lent_by out out_map) cells → record { answer = answer 13 t; counts = no_rows_written; cells = out; map = out_map } ≡ clean_end (clean_fit limits new new_map out out_map cells) new new_map out out_map
-    unfolding room_of accepted
-    stored_refused zero z e = absurd (z refl)
-    stored_refused (suc t) z e = sym (ap (λ (a : Answer). clean_end a new new_map out out_map) (fit_answer out out_map cells ∙ sym e) ∙ clean_refused (answer 13 (suc t)) refl new new_map out out_map)
+    pub stored_refused : (a : Answer) → accepted a ≡ false → a ≡ room_within n (lent_by out out_map) cells → record { answer = a; counts = no_rows_written; cells = out; map = out_map } ≡ clean_end (clean_fit limits new new_map out out_map cells) new new_map out out_map
+    stored_refused a z e = sym (ap (λ (b : Answer). clean_end b new new_map out out_map) (fit_answer out out_map cells ∙ sym e) ∙ clean_refused a z new new_map out out_map)
 
     -- all fits: the result stands at the front
-    pub stored_done : (t : ℕ) → t ≡ 0 → room_of t ≡ room_within n (lent_by out out_map) cells → (out' : Tables) (out_map' : List ℕ) → out' ≡ put_all new out → out_map' ≡ put new_map out_map → record { answer = done; counts = record { nodes = n.nodes; edges = n.edges; sites = n.sites; mutations = n.mutations }; cells = out'; map = out_map' } ≡ clean_end (clean_fit limits new new_map out out_map cells) new new_map out out_map
-    stored_done t z f out' out_map' w v =
-        let e : room_within n (lent_by out out_map) cells ≡ done = room_zero t n (lent_by out out_map) cells z f in
+    pub stored_done : room_within n (lent_by out out_map) cells ≡ done → (out' : Tables) (out_map' : List ℕ) → out' ≡ put_all new out → out_map' ≡ put new_map out_map → record { answer = done; counts = record { nodes = n.nodes; edges = n.edges; sites = n.sites; mutations = n.mutations }; cells = out'; map = out_map' } ≡ clean_end (clean_fit limits new new_map out out_map cells) new new_map out out_map
+    stored_done e out' out_map' w v =
         let l : n.edges ≤ limits.edges = (room_for n (lent_by out out_map) cells e).edges_few in
         sym (
         ap (λ (a : Answer). clean_end a new new_map out out_map) (fit_answer out out_map cells ∙ e)

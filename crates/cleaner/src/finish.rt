@@ -101,7 +101,7 @@ pub fn finish_mutations(
     ensures { MutationsDone places.now site.now derived.now k out_site.old out_node.old
         out_derived.old out_site.new out_node.new out_derived.new }
 {
-    writing::gather_states(derived, out_site, k, out_derived);
+    writing::gather(derived, out_site, k, out_derived);
     writing::rename(site, out_site, k);
     writing::rename(places, out_node, k);
 }

@@ -14,6 +14,7 @@ ghost use Rattle.sweep.specs.Columns.{moves_of, store_of};
 
 use crate::{lists, rank, store, trace};
 use meaning::{Counts, EdgeTable, NodeTable, Refusal};
+use writing::{Lengths, Needs};
 
 // Room for the samples' rows and then every row.
 const KEPT: usize = 1280;
@@ -215,30 +216,29 @@ pub fn clean_sound(
         &mut mrow,
         &mut mlow,
     );
-    let t = writing::within::no_room_within(
-        z.nodes,
-        z.edges,
-        position.len(),
-        z.mutations,
-        time.len(),
-        out_time.len(),
-        out_birth.len(),
-        out_population.len(),
-        out_left.len(),
-        out_right.len(),
-        out_parent.len(),
-        out_child.len(),
-        out_position.len(),
-        out_ancestral.len(),
-        out_site.len(),
-        out_node.len(),
-        out_derived.len(),
-        out_map.len(),
-        cells,
-    );
-    if t != 0 {
-        return Err(Refusal::NoRoom(t));
-    }
+    let need = Needs {
+        nodes: z.nodes,
+        edges: z.edges,
+        sites: position.len(),
+        mutations: z.mutations,
+        rows: time.len(),
+    };
+    let lent = Lengths {
+        time: out_time.len(),
+        birth: out_birth.len(),
+        population: out_population.len(),
+        left: out_left.len(),
+        right: out_right.len(),
+        parent: out_parent.len(),
+        child: out_child.len(),
+        position: out_position.len(),
+        ancestral: out_ancestral.len(),
+        site: out_site.len(),
+        node: out_node.len(),
+        derived: out_derived.len(),
+        nodemap: out_map.len(),
+    };
+    writing::within::check_room_and_block(need, lent, cells)?;
     store::write_nodes(
         time,
         birth,

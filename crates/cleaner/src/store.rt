@@ -28,7 +28,7 @@ pub fn write_nodes(
 {
     writing::gather(time, kept, k, out_time);
     writing::gather(birth, kept, k, out_birth);
-    writing::gather_populations(population, kept, k, out_population);
+    writing::gather(population, kept, k, out_population);
 }
 
 // Table 3: all sites, unchanged.
@@ -45,5 +45,5 @@ pub fn write_sites(
         (out_ancestral.new ≡ put ancestral.now out_ancestral.old) }
 {
     writing::copy(position, position.len(), out_position);
-    writing::copy_states(ancestral, position.len(), out_ancestral);
+    writing::copy(ancestral, position.len(), out_ancestral);
 }

@@ -1,8 +1,7 @@
 -- Laws for the second pass: a number by its bytes, a column filled turn by turn, and fields within records.
 use mathlib.Core.Path.{◌≡◌, refl, sym, ap, ap₂, ◌∙◌}
-use mathlib.Core.Bool.{Bool, true, false}
 use mathlib.Core.List.{List, [], ◌∷◌, ◌++◌, append_assoc}
-use Prim.Native.Nat.{ℕ, zero, suc, ◌+◌, ◌*◌, ◌-◌, ◌<◌, ◌≤◌}
+use Prim.Native.Nat.{ℕ, zero, suc, ◌+◌, ◌*◌, ◌<◌, ◌≤◌}
 use native.Mathlib.Nat.{zero-mul, suc-mul}
 use native.Mathlib.Numerals.{add-one}
 use native.Mathlib.Omega.{arith}
@@ -24,12 +23,12 @@ pub number_two : (s : List ℕ) (o : ℕ) → number 2 s o ≡ at s o + at s (o 
 unfolding number
 number_two s o = omega (arith, ap (at s) (add-one o))
 
-pub number_four : (s : List ℕ) (o : ℕ) → number 4 s o ≡ number 2 s o + number 2 s (o + 2) * 65536
+pub number_four : (s : List ℕ) (o : ℕ) → number 4 s o ≡ at s o + at s (o + 1) * 256 + at s (o + 2) * 65536 + at s (o + 3) * 16777216
 unfolding number
 number_four s o =
     let p : o + 2 ≡ suc (suc o) = omega arith in
-    let q : suc (o + 2) ≡ suc (suc (suc o)) = omega arith in
-    omega (arith, ap (at s) p, ap (at s) q)
+    let q : o + 3 ≡ suc (suc (suc o)) = omega arith in
+    omega (arith, ap (at s) (add-one o), ap (at s) p, ap (at s) q)
 
 -- ---- a column
 

@@ -1,13 +1,13 @@
 -- Laws for bytes laid at an offset: one after the other, record by record, and over the whole file.
 use mathlib.Core.Path.{◌≡◌, refl, sym, ap, ap₂, ◌∙◌}
-use mathlib.Core.Bool.{Bool, true, false}
 use mathlib.Core.List.{List, [], ◌∷◌, ◌++◌, append_assoc, append-nil}
 use Prim.Native.Nat.{ℕ, zero, suc, ◌+◌, ◌*◌, ◌-◌, ◌/◌, ◌%◌, ◌<◌, ◌≤◌}
 use native.Mathlib.Nat.{zero-mul, suc-mul}
 use native.Mathlib.Numerals.{add-one}
 use native.Mathlib.Omega.{arith}
-use lib.ListN.{length, take, drop, set, length-append, length-take, length-drop, take-append-drop}
+use lib.ListN.{length, take, drop, set, length-append, length-drop, take-append-drop}
 use lib.Seq.{set_split, take_at, drop_at, drop-drop, length-take-le}
+use Rattle.std.specs.Int.{w32, to_le_bytes}
 use Rattle.meaning.specs.Answer.{put}
 use Rattle.meaning.specs.Stored.{Kind, bytes_of, size, record_at, records_from}
 use Rattle.form.specs.Records.{length_record}
@@ -19,10 +19,17 @@ pub bytes_one : (v : ℕ) → v < 256 → bytes_of 1 v ≡ v ∷ []
 unfolding bytes_of
 bytes_one v h = let q : v % 256 ≡ v = omega arith in ap (λ a. a ∷ []) q
 
--- four bytes are two and two
-pub bytes_halves : (v : ℕ) → bytes_of 2 v ++ bytes_of 2 (v / 65536) ≡ bytes_of 4 v
+-- the bytes that the library gives are those of the form
+pub bytes_four : (v : ℕ) → to_le_bytes w32 v ≡ bytes_of 4 v
 unfolding bytes_of
-bytes_halves v = let q : v / 65536 ≡ v / 256 / 256 = omega arith in ap (λ a. v % 256 ∷ v / 256 % 256 ∷ a % 256 ∷ a / 256 % 256 ∷ []) q
+bytes_four v =
+    let p : v / 65536 ≡ v / 256 / 256 = omega arith in
+    let q : v / 16777216 ≡ v / 256 / 256 / 256 = omega arith in
+    ap₂ (λ (a b : ℕ). v % 256 ∷ v / 256 % 256 ∷ a % 256 ∷ b % 256 ∷ []) p q
+
+pub bytes_two : (v : ℕ) → take 2 (to_le_bytes w32 v) ≡ bytes_of 2 v
+unfolding bytes_of
+bytes_two v = refl
 
 -- ---- one after the other
 
@@ -33,6 +40,13 @@ length_lay o new old h = omega (arith, length-append (take o old) (new ++ drop (
 pub lay_one : (o v : ℕ) (old : List ℕ) → o + 1 ≤ length old → set old o v ≡ lay o (v ∷ []) old
 unfolding lay
 lay_one o v old h = set_split old o v (omega arith) ∙ ap (λ j. take o old ++ (v ∷ drop j old)) (sym (add-one o))
+
+-- a part that was copied over is laid
+pub lay_part : (o n : ℕ) (new old : List ℕ) {part : List ℕ} → part ≡ new → length new ≡ n → take o old ++ (part ++ drop (o + n - o) (drop o old)) ≡ lay o new old
+unfolding lay
+lay_part o n new old e l =
+    let q : o + (o + n - o) ≡ o + length new = omega (arith, l) in
+    ap₂ (λ (p r : List ℕ). take o old ++ (p ++ r)) e (drop-drop (o + n - o) o old ∙ ap (λ j. drop j old) q)
 
 lay_nil : (o : ℕ) (old : List ℕ) → lay o [] old ≡ old
 unfolding lay

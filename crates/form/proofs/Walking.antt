@@ -1,36 +1,53 @@
 -- Laws for the first pass: a mark by its two bytes, a stretch turn by turn, and the tests that end a kind and the file.
-use mathlib.Core.Path.{◌≡◌, refl, sym, ap, ap₂, ◌∙◌}
-use mathlib.Core.Bool.{Bool, true, false, not}
+use mathlib.Core.Path.{◌≡◌, refl, sym, ap, ap₂, subst, ◌∙◌}
+use mathlib.Core.Bool.{true, false, not}
 use mathlib.Core.List.{List, [], ◌∷◌}
-use Prim.Native.Nat.{ℕ, zero, suc, ◌+◌, ◌*◌, ◌-◌, ◌<◌, ◌≤◌}
+use Prim.Native.Nat.{ℕ, suc, ◌+◌, ◌*◌, ◌-◌, ◌<◌, ◌≤◌}
 use native.Mathlib.Nat.{zero-mul, suc-mul}
 use native.Mathlib.Numerals.{add-one}
 use native.Mathlib.Omega.{arith}
-use borrow.Author.Tests.{le-leb, lt-leb, lt-ltb, le-ltb, eq-eqb, ne_eqb}
-use lib.Dec.{eqb, leb, ltb}
+use borrow.Author.Tests.{le-leb, lt-leb, lt-ltb, le-ltb, eq-eqb}
+use lib.Dec.{eqb, leb}
 use lib.ListN.{length}
+use Rattle.std.specs.Prelude.{nat_eq}
+use Rattle.std.specs.List.{starts_with}
+use Rattle.std.specs.Cmp.Lexicographic.{same_text}
+use Rattle.std.proofs.lemmas.List.{take_all, length-take}
+use Rattle.laws.specs.Bools.{bool_ext}
+use Rattle.std.specs.Prelude.{take, drop}
+use Rattle.std.proofs.Common.{length-drop}
 use Rattle.meaning.specs.Words.{and, at}
-use Rattle.meaning.specs.Answer.{Answer, answer, refuse}
+use Rattle.meaning.specs.Answer.{Answer, answer}
 use Rattle.meaning.specs.Stored.{is_mark, whole, stop_then, end_then}
 use Rattle.form.specs.Refusals.{refuse_no, refuse_yes}
-use Rattle.form.specs.Marks.{Marked, marked, whole_more, whole_unmarked, whole_cut, whole_none, whole_within}
+use Rattle.form.specs.Marks.{marked, marked_front, two_front, front_mark, whole_more, whole_unmarked, whole_cut, whole_none, whole_within}
 use Rattle.form.specs.Posts.{Stretched}
 use Rattle.form.specs.declared.Stretch.{Stretch}
 
 -- ---- a mark
 
-module _ (a b : ℕ) (s : List ℕ) (o : ℕ) where
-  pub mark_short : length s - o < 2 → o ≤ length s → false ≡ is_mark a b s o
-  unfolding is_mark
-  mark_short l h = rw (lt-leb (o + 2) (length s) (omega arith))
+-- a mark is the two bytes that it has
+two_same : (m t : List ℕ) → length m ≡ 2 → starts_with nat_eq (at m 0 ∷ at m 1 ∷ t) m ≡ true
+two_same [] t e = absurd (omega arith)
+two_same (a ∷ []) t e = absurd (omega arith)
+two_same (a ∷ b ∷ []) t e = rw (eq-eqb a a refl, eq-eqb b b refl) refl
+two_same (a ∷ b ∷ d ∷ m) t e = absurd (omega arith)
 
-  pub mark_first : 2 ≤ length s - o → (at s o ≡ a → ⊥) → false ≡ is_mark a b s o
-  unfolding is_mark
-  mark_first l n = rw (le-leb (o + 2) (length s) (omega arith), ne_eqb (at s o) a n)
+-- the two bytes that stand there are the mark's
+pub mark_there : (m s : List ℕ) (o : ℕ) → length m ≡ 2 → o ≤ length s → starts_with nat_eq (take (length s - o) (drop o s)) m ≡ is_mark (at m 0) (at m 1) s o
+mark_there m s o e l = ap (λ t. starts_with nat_eq t m) (take_all (length s - o) (drop o s) (omega (arith, length-drop o s))) ∙ bool_ext there back
+  where
+    there : starts_with nat_eq (drop o s) m ≡ true → is_mark (at m 0) (at m 1) s o ≡ true
+    there h =
+        let q : m ≡ take (length m) (drop o s) = same_text m (take (length m) (drop o s)) (sym h) in
+        let r : o + 2 ≤ length s = omega (arith, ap length q, length-take (length m) (drop o s), length-drop o s) in
+        let w : m ≡ at s o ∷ at s (o + 1) ∷ [] = q ∙ ap (λ k. take k (drop o s)) e ∙ ap (take 2) (two_front s o r) in
+        front_mark s o (two_front s o r ∙ ap₂ (λ x y. x ∷ y ∷ drop (o + 2) s) (sym (ap (λ t. at t 0) w)) (sym (ap (λ t. at t 1) w)))
 
-  pub mark_second : 2 ≤ length s - o → at s o ≡ a → eqb (at s (o + 1)) b ≡ is_mark a b s o
-  unfolding is_mark
-  mark_second l e = rw (le-leb (o + 2) (length s) (omega arith), eq-eqb (at s o) a e)
+    back : is_mark (at m 0) (at m 1) s o ≡ true → starts_with nat_eq (drop o s) m ≡ true
+    back h =
+        let q : drop o s ≡ at m 0 ∷ at m 1 ∷ drop (o + 2) s = marked_front (at m 0) (at m 1) s o (marked (at m 0) (at m 1) s o h) in
+        rw q (two_same m (drop (o + 2) s) e)
 
 -- ---- a stretch
 
@@ -58,8 +75,12 @@ module _ (a b z most : ℕ) (s : List ℕ) (o : ℕ) where
   pub count_cut : (n e : ℕ) → Counting a b z most s o n e → is_mark a b s e ≡ true → length s - e < z → Stretched a b z most s o (record { start = o; count = n; end = e })
   count_cut n e c m l = stops n e c (whole_cut a b z s (most - n) e m (omega (arith, c.within)))
 
-  pub count_full : (n e : ℕ) → Counting a b z most s o n e → most ≤ n → Stretched a b z most s o (record { start = o; count = n; end = e })
-  count_full n e c l = let q : most - n ≡ 0 = omega arith in stops n e c (ap (λ j. whole a b z s j e) q ∙ whole_none a b z s e)
+  -- all that may be are counted
+  pub count_full : (e n : ℕ) → Counting a b z most s o n e → most ≤ n → Stretched a b z most s o (record { start = o; count = most; end = e })
+  count_full e n c l =
+      let q : most - n ≡ 0 = omega arith in
+      let p : n ≡ most = omega (arith, c.few) in
+      subst (λ j. Stretched a b z most s o (record { start = o; count = j; end = e })) p (stops n e c (ap (λ j. whole a b z s j e) q ∙ whole_none a b z s e))
 
   pub count_more : (n e : ℕ) → Counting a b z most s o n e → n < most → is_mark a b s e ≡ true → z ≤ length s - e → Counting a b z most s o (n + 1) (e + z)
   count_more n e c l m h =

@@ -1,12 +1,12 @@
 -- Marks, and the whole records that stand one after the other.
-use Rattle.std.specs.Prelude.{◌≡◌, Bool, List, [], ◌∷◌, ◌++◌, eqb, leb, length, drop}
+use Rattle.std.specs.Prelude.{◌≡◌, Bool, List, ◌∷◌, eqb, leb, length, drop}
 use Rattle.std.proofs.Math.Path.{refl}
-use Rattle.std.proofs.Common.{sym, ap, ◌∙◌, zero-mul, suc-mul, add-one, arith, length-drop, drop-cons}
+use Rattle.std.proofs.Common.{ap, ◌∙◌, zero-mul, suc-mul, add-one, arith, length-drop, drop-cons}
 use Rattle.std.proofs.Math.Bool.{true, false}
 use Prim.Native.Nat.{ℕ, zero, suc, ◌+◌, ◌*◌, ◌<◌, ◌≤◌}
 use borrow.Author.Tests.{leb-true, eqb-true, le-leb, lt-leb, eq-eqb}
 use Rattle.meaning.specs.Words.{and, at}
-use Rattle.laws.specs.Bools.{clash, and_of, and_yes}
+use Rattle.laws.specs.Bools.{and_of, and_yes}
 use Rattle.meaning.specs.Stored.{is_mark, whole}
 use Rattle.form.specs.Numbers.{at_front, drop_front}
 

@@ -1,14 +1,11 @@
 -- What the code's own answers stand for: the promises of the functions below the two calls.
-use Rattle.std.specs.Prelude.{◌≡◌, Bool, true, false, List, [], ◌∷◌, ◌++◌, ℕ, ◌+◌, ◌*◌, ◌<◌, ◌≤◌, length, take, drop}
+use Rattle.std.specs.Prelude.{◌≡◌, List, ◌++◌, ℕ, ◌+◌, ◌*◌, ◌<◌, ◌≤◌, length, take, drop, Result, Ok, Err}
 use Rattle.meaning.specs.Answer.{Answer, stored_limits, refusal_of}
-use Rattle.meaning.specs.Stored.{SA, ND, ED, Si, MU, kinds, form, is_mark, whole, rows_at, after, stop_then, kinds_then, end_then, form_then}
+use Rattle.meaning.specs.Stored.{kinds, form, whole, stop_then, kinds_then, end_then, form_then}
 use Rattle.meaning.specs.Files.{nodes_from, edges_from, sites_from, muts_from}
 use Rattle.form.specs.declared.Stretch.{Stretch}
 use Rattle.form.specs.declared.Layout.{Layout}
-use Rattle.form.specs.declared.Step.{Step}
-use Rattle.form.specs.declared.Step.TheVariants as step
-use Rattle.form.specs.declared.Scan.{Scan}
-use Rattle.form.specs.declared.Scan.TheVariants as scan
+use Rattle.meaning.specs.declared.Refusal.{Refusal}
 
 -- the stretch of whole records of z bytes with the mark a b from offset o on
 pub record Stretched (a b z most : ℕ) (s : List ℕ) (o : ℕ) (w : Stretch) : Type 0 where
@@ -17,9 +14,9 @@ pub record Stretched (a b z most : ℕ) (s : List ℕ) (o : ℕ) (w : Stretch) :
   pub ends : w.end ≡ o + whole a b z s most o * z
 
 -- a kind's step: its stretch, after which its mark stands no more, or the refusal
-unfoldable pub Stepped : ℕ → ℕ → ℕ → ℕ → List ℕ → ℕ → Step → Type 0
-Stepped a b z most s o (step.Ends w) = Stretched a b z most s o w × ((rest : Answer) → stop_then a b most (whole a b z s most o) s (o + whole a b z s most o * z) rest ≡ rest)
-Stepped a b z most s o (step.Refused x) = (rest : Answer) → stop_then a b most (whole a b z s most o) s (o + whole a b z s most o * z) rest ≡ refusal_of x
+unfoldable pub Stepped : ℕ → ℕ → ℕ → ℕ → List ℕ → ℕ → Result Stretch Refusal → Type 0
+Stepped a b z most s o (Ok w) = Stretched a b z most s o w × ((rest : Answer) → stop_then a b most (whole a b z s most o) s (o + whole a b z s most o * z) rest ≡ rest)
+Stepped a b z most s o (Err x) = (rest : Answer) → stop_then a b most (whole a b z s most o) s (o + whole a b z s most o * z) rest ≡ refusal_of x
 
 -- where the rows of each kind stand
 pub record Found (s : List ℕ) (l : Layout) : Type 0 where
@@ -30,19 +27,19 @@ pub record Found (s : List ℕ) (l : Layout) : Type 0 where
   pub mutations : Stretched 77 85 7 stored_limits.mutations s (muts_from 2 stored_limits s) l.mutations
 
 -- the whole file: its layout, or the refusal 31 to 34
-unfoldable pub Scanned : List ℕ → Scan → Type 0
-Scanned s (scan.Found l) = Found s l × (6 ≤ length s) × ((rest : Answer) → form_then (form 2 stored_limits) s rest ≡ rest)
-Scanned s (scan.Refused x) = (rest : Answer) → form_then (form 2 stored_limits) s rest ≡ refusal_of x
+unfoldable pub Scanned : List ℕ → Result Layout Refusal → Type 0
+Scanned s (Ok l) = Found s l × (6 ≤ length s) × ((rest : Answer) → form_then (form 2 stored_limits) s rest ≡ rest)
+Scanned s (Err x) = (rest : Answer) → form_then (form 2 stored_limits) s rest ≡ refusal_of x
 
 -- the same, of what stands from the kinds on
-unfoldable pub KindsScanned : List ℕ → Scan → Type 0
-KindsScanned s (scan.Found l) = Found s l × ((rest : Answer) → kinds_then (kinds 2 stored_limits) s 6 rest ≡ rest)
-KindsScanned s (scan.Refused x) = (rest : Answer) → kinds_then (kinds 2 stored_limits) s 6 rest ≡ refusal_of x
+unfoldable pub KindsScanned : List ℕ → Result Layout Refusal → Type 0
+KindsScanned s (Ok l) = Found s l × ((rest : Answer) → kinds_then (kinds 2 stored_limits) s 6 rest ≡ rest)
+KindsScanned s (Err x) = (rest : Answer) → kinds_then (kinds 2 stored_limits) s 6 rest ≡ refusal_of x
 
 -- the end of the file: nothing, or the refusal
-unfoldable pub EndScanned : List ℕ → ℕ → Step → Type 0
-EndScanned s o (step.Ends w) = (rest : Answer) → end_then s o rest ≡ rest
-EndScanned s o (step.Refused x) = (rest : Answer) → end_then s o rest ≡ refusal_of x
+unfoldable pub EndScanned : List ℕ → ℕ → Result Unit Refusal → Type 0
+EndScanned s o (Ok w) = (rest : Answer) → end_then s o rest ≡ rest
+EndScanned s o (Err x) = (rest : Answer) → end_then s o rest ≡ refusal_of x
 
 -- ---- what filling asks
 

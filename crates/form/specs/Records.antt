@@ -1,5 +1,5 @@
 -- The records of one kind: what was read is what stands there, and what was written is read.
-use Rattle.std.specs.Prelude.{◌≡◌, refl, Bool, true, false, get_or, take}
+use Rattle.std.specs.Prelude.{◌≡◌, refl, true, take}
 use Rattle.std.proofs.Math.Path.{sym, ap, ap₂}
 use Rattle.std.proofs.Common.{◌∙◌, take-append-drop, ext_get_or, take-add, drop-drop}
 use mathlib.Core.List.{List, [], ◌∷◌, ◌++◌, append_assoc}
@@ -12,7 +12,7 @@ use Rattle.meaning.specs.Words.{at, rows}
 use Rattle.laws.specs.Counting.{length_rows, get_rows, rows_at}
 use Rattle.meaning.specs.Stored.{Kind, number, bytes_of, is_mark, total, size, columns, fields_at, record_at, records_from}
 use Rattle.form.specs.Numbers.{Bytes, length_bytes, number_written, bytes_read}
-use Rattle.form.specs.Marks.{Marked, marked, marked_front, front_mark}
+use Rattle.form.specs.Marks.{marked, marked_front, front_mark}
 
 -- rows made by functions that agree below n
 rows_same : (f g : ℕ → ℕ) (n : ℕ) → ((i : ℕ) → i < n → f i ≡ g i) → rows f n ≡ rows g n

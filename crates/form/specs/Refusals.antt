@@ -1,9 +1,9 @@
 -- Refusals in their order: what is passed, and what an accepted answer has passed.
-use Rattle.std.specs.Prelude.{◌≡◌, refl, Bool, true, false, not, List, [], ◌∷◌, ℕ, ◌<◌, ◌≤◌, eqb, ltb, length}
-use Rattle.std.proofs.Common.{sym, ap, ◌∙◌, ⊎_elim, arith, le-ltb, ltb-false, eqb-true, eq-eqb}
+use Rattle.std.specs.Prelude.{◌≡◌, refl, Bool, true, false, not, List, [], ◌∷◌, ℕ, ◌<◌, eqb, ltb, length}
+use Rattle.std.proofs.Common.{arith, le-ltb, ltb-false, eqb-true, eq-eqb}
 use Rattle.meaning.specs.Words.{any, lowest}
 use Rattle.meaning.specs.Answer.{Answer, refuse, refuse_row, accepted, ragged}
-use Rattle.laws.specs.Bools.{clash, not_no}
+use Rattle.laws.specs.Bools.{clash}
 use Rattle.laws.specs.Counting.{lowest_none, none_passes}
 
 pub refuse_no : {t : Bool} (n r : ℕ) (rest : Answer) → t ≡ false → refuse t n r rest ≡ rest

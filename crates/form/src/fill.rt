@@ -5,18 +5,12 @@ ghost use Rattle.meaning.specs.Answer.{put};
 ghost use Rattle.meaning.specs.Stored.{number};
 ghost use Rattle.form.specs.Posts.{Fields, Records};
 
-fn wide(b: u8) -> u32
-    ensures { (result ≡ b) × (result < 256) }
-{
-    b as u32
-}
-
 // The number in two bytes.
 fn get16(s: &[u8], at: usize) -> u32
     requires { at + 2 ≤ length s.now }
-    ensures { (result ≡ number 2 s.now at) × (result < 65536) }
+    ensures { result ≡ number 2 s.now at }
 {
-    wide(s[at]) + wide(s[at + 1]) * 256
+    u32::from(u16::from_le_bytes([s[at], s[at + 1]]))
 }
 
 // The number in four bytes.
@@ -24,20 +18,19 @@ pub fn get32(s: &[u8], at: usize) -> u32
     requires { at + 4 ≤ length s.now }
     ensures { result ≡ number 4 s.now at }
 {
-    get16(s, at) + get16(s, at + 2) * 65536
+    u32::from_le_bytes([s[at], s[at + 1], s[at + 2], s[at + 3]])
 }
 
-// A column from a field of four bytes; the first stands at an offset, each next one a step further on.
+// A column from a field of four bytes; the first stands at an offset, each next one a step further on. There is one function for
+// each width, since fields of two and of four bytes fill cells of one type, which so does not tell the width.
 pub fn fill32(s: &[u8], start: usize, step: usize, n: usize, out: &mut [u32])
     requires { Fields 4 s.now start step n × (n ≤ length out.old) }
     ensures { out.new ≡ put (rows (λ i. number 4 s.now (start + i * step)) n) out.old }
 {
     let mut at = start;
-    let mut i = 0;
-    while i < n {
+    for i in 0..n {
         out[i] = get32(s, at);
         at += step;
-        i += 1;
     }
 }
 
@@ -47,11 +40,9 @@ pub fn fill16(s: &[u8], start: usize, step: usize, n: usize, out: &mut [u32])
     ensures { out.new ≡ put (rows (λ i. number 2 s.now (start + i * step)) n) out.old }
 {
     let mut at = start;
-    let mut i = 0;
-    while i < n {
+    for i in 0..n {
         out[i] = get16(s, at);
         at += step;
-        i += 1;
     }
 }
 
@@ -61,11 +52,9 @@ pub fn fill8(s: &[u8], start: usize, step: usize, n: usize, out: &mut [u8])
     ensures { out.new ≡ put (rows (λ i. number 1 s.now (start + i * step)) n) out.old }
 {
     let mut at = start;
-    let mut i = 0;
-    while i < n {
+    for i in 0..n {
         out[i] = s[at];
         at += step;
-        i += 1;
     }
 }
 

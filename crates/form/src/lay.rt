@@ -16,8 +16,7 @@ pub fn put16(at: usize, v: u32, out: &mut [u8])
     requires { at + 2 ≤ length out.old }
     ensures { out.new ≡ lay at (bytes_of 2 v) out.old }
 {
-    put8(at, (v % 256) as u8, out);
-    put8(at + 1, (v / 256 % 256) as u8, out);
+    out[at..at + 2].copy_from_slice(&v.to_le_bytes()[..2]);
 }
 
 // A number in four bytes.
@@ -25,17 +24,15 @@ pub fn put32(at: usize, v: u32, out: &mut [u8])
     requires { at + 4 ≤ length out.old }
     ensures { out.new ≡ lay at (bytes_of 4 v) out.old }
 {
-    put16(at, v, out);
-    put16(at + 2, v / 65536, out);
+    out[at..at + 4].copy_from_slice(&v.to_le_bytes());
 }
 
 // A mark.
-pub fn mark(at: usize, a: u8, b: u8, out: &mut [u8])
+pub fn mark(at: usize, mark: [u8; 2], out: &mut [u8])
     requires { at + 2 ≤ length out.old }
-    ensures { out.new ≡ lay at (a ∷ b ∷ []) out.old }
+    ensures { out.new ≡ lay at mark out.old }
 {
-    put8(at, a, out);
-    put8(at + 1, b, out);
+    out[at..at + 2].copy_from_slice(&mark);
 }
 
 // The first record: its mark and L.
@@ -43,7 +40,7 @@ pub fn head(len: u32, out: &mut [u8])
     requires { 6 ≤ length out.old }
     ensures { out.new ≡ lay 0 (83 ∷ 81 ∷ bytes_of 4 len) out.old }
 {
-    mark(0, 83, 81, out);
+    mark(0, *b"SQ", out);
     put32(2, len, out);
 }
 
@@ -53,21 +50,19 @@ fn sample_row(at: usize, birth: u32, out: &mut [u8])
     ensures { out.new ≡ lay at (record_at (SA stored_limits) ((birth ∷ []) ∷ []) 0) out.old }
 {
     let p = at + 2;
-    mark(at, 83, 65, out);
+    mark(at, *b"SA", out);
     put32(p, birth, out);
 }
 
-// The records of all samples; the offset after them.
+// The records of all samples; the offset after them. There is one loop for each kind, since each has its own columns and widths.
 pub fn samples(birth: &[u32], start: usize, out: &mut [u8]) -> usize
     requires { start + length birth.now * 6 ≤ length out.old }
     ensures { (result ≡ start + length birth.now * 6) × (out.new ≡ lay start (records_from (SA stored_limits) (birth.now ∷ []) 0 (length birth.now)) out.old) }
 {
     let mut at = start;
-    let mut i = 0;
-    while i < birth.len() {
+    for i in 0..birth.len() {
         sample_row(at, birth[i], out);
         at += 6;
-        i += 1;
     }
     at
 }
@@ -79,7 +74,7 @@ fn node_row(at: usize, time: u32, birth: u32, out: &mut [u8])
 {
     let p = at + 2;
     let q = p + 4;
-    mark(at, 78, 68, out);
+    mark(at, *b"ND", out);
     put32(p, time, out);
     put32(q, birth, out);
 }
@@ -90,11 +85,9 @@ pub fn nodes(time: &[u32], birth: &[u32], start: usize, out: &mut [u8]) -> usize
     ensures { (result ≡ start + length time.now * 10) × (out.new ≡ lay start (records_from (ND stored_limits) (time.now ∷ birth.now ∷ []) 0 (length time.now)) out.old) }
 {
     let mut at = start;
-    let mut i = 0;
-    while i < time.len() {
+    for i in 0..time.len() {
         node_row(at, time[i], birth[i], out);
         at += 10;
-        i += 1;
     }
     at
 }
@@ -108,7 +101,7 @@ fn edge_row(at: usize, left: u32, right: u32, parent: u32, child: u32, out: &mut
     let q = p + 4;
     let r = q + 4;
     let s = r + 2;
-    mark(at, 69, 68, out);
+    mark(at, *b"ED", out);
     put32(p, left, out);
     put32(q, right, out);
     put16(r, parent, out);
@@ -128,11 +121,9 @@ pub fn edges(
     ensures { (result ≡ start + length left.now * 14) × (out.new ≡ lay start (records_from (ED 2 stored_limits) (left.now ∷ right.now ∷ parent.now ∷ child.now ∷ []) 0 (length left.now)) out.old) }
 {
     let mut at = start;
-    let mut i = 0;
-    while i < left.len() {
+    for i in 0..left.len() {
         edge_row(at, left[i], right[i], parent[i], child[i], out);
         at += 14;
-        i += 1;
     }
     at
 }
@@ -144,7 +135,7 @@ fn site_row(at: usize, position: u32, ancestral: u8, out: &mut [u8])
 {
     let p = at + 2;
     let q = p + 4;
-    mark(at, 83, 73, out);
+    mark(at, *b"SI", out);
     put32(p, position, out);
     put8(q, ancestral, out);
 }
@@ -155,11 +146,9 @@ pub fn sites(position: &[u32], ancestral: &[u8], start: usize, out: &mut [u8]) -
     ensures { (result ≡ start + length position.now * 7) × (out.new ≡ lay start (records_from (Si stored_limits) (position.now ∷ ancestral.now ∷ []) 0 (length position.now)) out.old) }
 {
     let mut at = start;
-    let mut i = 0;
-    while i < position.len() {
+    for i in 0..position.len() {
         site_row(at, position[i], ancestral[i], out);
         at += 7;
-        i += 1;
     }
     at
 }
@@ -172,7 +161,7 @@ fn mutation_row(at: usize, site: u32, node: u32, derived: u8, out: &mut [u8])
     let p = at + 2;
     let q = p + 2;
     let r = q + 2;
-    mark(at, 77, 85, out);
+    mark(at, *b"MU", out);
     put16(p, site, out);
     put16(q, node, out);
     put8(r, derived, out);
@@ -184,11 +173,9 @@ pub fn mutations(site: &[u32], node: &[u32], derived: &[u8], start: usize, out: 
     ensures { (result ≡ start + length site.now * 7) × (out.new ≡ lay start (records_from (MU 2 stored_limits) (site.now ∷ node.now ∷ derived.now ∷ []) 0 (length site.now)) out.old) }
 {
     let mut at = start;
-    let mut i = 0;
-    while i < site.len() {
+    for i in 0..site.len() {
         mutation_row(at, site[i], node[i], derived[i], out);
         at += 7;
-        i += 1;
     }
     at
 }

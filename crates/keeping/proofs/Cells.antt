@@ -5,7 +5,7 @@ use mathlib.Core.List.{List, [], ◌∷◌, ◌++◌}
 use mathlib.Core.Logic.{⊎_elim}
 use Prim.Native.Nat.{ℕ, suc, ◌+◌, ◌<◌, ◌≤◌}
 use native.Mathlib.Omega.{arith}
-use lib.ListN.{length, take, set, length-set}
+use lib.ListN.{length, take, set, replicate, length-set, length-replicate, get_or-replicate}
 use lib.Seq.{ext_get_or, get_or-set_same, get_or-set_other, take-suc, take_all, length-take-le}
 use Rattle.meaning.specs.Words.{at, mem, rows}
 use Rattle.meaning.specs.Answer.{put}
@@ -30,6 +30,10 @@ pub cells_rows : (f : ℕ → ℕ) (l : List ℕ) (n : ℕ) → length l ≡ n �
 cells_rows f l n e c =
     ext_get_or 0 l (rows f n) (e ∙ sym (length_rows f n))
     (λ k h. c k (omega arith) ∙ sym (get_rows f 0 n k (omega arith)))
+
+-- a column filled with one value
+pub filled_rows : {l : List ℕ} (n v : ℕ) → l ≡ replicate n v → l ≡ rows (λ u. v) n
+filled_rows {l} n v e = cells_rows (λ u. v) l n (ap length e ∙ length-replicate n v) (λ k h. ap (λ z. at z k) e ∙ get_or-replicate n k v 0 h)
 
 -- ---- the members of a list in turn
 

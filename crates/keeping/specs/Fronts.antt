@@ -9,24 +9,24 @@ use Rattle.order.specs.Order.{Inside}
 use Rattle.byrows.specs.Rows.{sample_rows}
 use Rattle.byrows.specs.Ground.{mem_all}
 
-pub put_none : (old : List ℕ) → old ≡ put [] old
+pub put_none : {A : Type 0} (old : List A) → old ≡ put [] old
 unfolding put
 put_none old = refl
 
--- one number more
-pub put_more : (l old : List ℕ) (v : ℕ) → length l < length old → set (put l old) (length l) v ≡ put (l ++ (v ∷ [])) old
+-- one cell more
+pub put_more : {A : Type 0} (l old : List A) (v : A) → length l < length old → set (put l old) (length l) v ≡ put (l ++ (v ∷ [])) old
 unfolding put
 put_more [] [] v h = absurd (omega arith)
 put_more [] (x ∷ old) v h = refl
 put_more (a ∷ l) [] v h = absurd (omega arith)
-put_more (a ∷ l) (x ∷ old) v h = ap (λ (r : List ℕ). a ∷ r) (put_more l old v (omega arith))
+put_more (a ∷ l) (x ∷ old) v h = ap (λ r. a ∷ r) (put_more l old v (omega arith))
 
 -- what was put at the front stands there, and the cells past it are as they were
-pub put_front : (l old out : List ℕ) (k : ℕ) → k ≡ length l → out ≡ put l old → take k out ≡ l
+pub put_front : {A : Type 0} (l old out : List A) (k : ℕ) → k ≡ length l → out ≡ put l old → take k out ≡ l
 unfolding put
 put_front l old out k q e = ap (take k) e ∙ take_at l (drop (length l) old) k (sym q)
 
-pub put_past : (l old out : List ℕ) (k : ℕ) → k ≡ length l → out ≡ put l old → drop k out ≡ drop k old
+pub put_past : {A : Type 0} (l old out : List A) (k : ℕ) → k ≡ length l → out ≡ put l old → drop k out ≡ drop k old
 unfolding put
 put_past l old out k q e = ap (drop k) e ∙ drop_at l (drop (length l) old) k (sym q) ∙ ap (λ j. drop j old) (sym q)
 

@@ -26,11 +26,7 @@ fn wide(x: u32) -> usize
 fn unmark(marks: &mut [u8])
     ensures { marks.new ≡ rows (λ u. 0) (length marks.old) }
 {
-    let mut i = 0;
-    while i < marks.len() {
-        marks[i] = 0;
-        i += 1;
-    }
+    marks.fill(0);
 }
 
 // The row of each sample in list order, found among the births in order, and a mark on each of these rows.
@@ -45,12 +41,10 @@ pub fn sample_rows(
     ensures { (srow.new ≡ put (sample_rows birth.now samples.now) srow.old) × (sample.new ≡ rows (λ u. bit (mem u (sample_rows birth.now samples.now))) (length birth.now)) }
 {
     unmark(sample);
-    let mut i = 0;
-    while i < samples.len() {
-        let r = order::ranks::row_of(birth, by_birth, samples[i]) as u32;
-        srow[i] = r;
-        sample[wide(r)] = 1;
-        i += 1;
+    for i in 0..samples.len() {
+        let r = order::ranks::row_of(birth, by_birth, samples[i]).unwrap();
+        srow[i] = r as u32;
+        sample[r] = 1;
     }
 }
 
@@ -71,13 +65,11 @@ fn collect(stood: &[u8], sample: &[u8], out: &mut [u32]) -> usize
     ensures { (result ≡ length (other_rows stood.now sample.now)) × (out.new ≡ put (other_rows stood.now sample.now) out.old) }
 {
     let mut k: usize = 0;
-    let mut u: usize = 0;
-    while u < stood.len() {
+    for u in 0..stood.len() {
         if is_other(stood, sample, u) {
             out[k] = u as u32;
             k += 1;
         }
-        u += 1;
     }
     k
 }
@@ -96,11 +88,7 @@ pub fn others(stood: &[u8], sample: &[u8], time: &[u32], birth: &[u32], out: &mu
 fn none_kept(nodemap: &mut [u32])
     ensures { nodemap.new ≡ rows (λ u. no_row) (length nodemap.old) }
 {
-    let mut i = 0;
-    while i < nodemap.len() {
-        nodemap[i] = meaning::MapTable::NONE;
-        i += 1;
-    }
+    nodemap.fill(meaning::MapTable::NONE);
 }
 
 // Gives each of the first n rows kept its place, counted from first. From the last back, so that a row's first place stays.
@@ -108,9 +96,7 @@ fn place(kept: &[u32], n: usize, first: usize, nodemap: &mut [u32])
     requires { (n ≤ length kept.now) × (first + n ≤ 4294967295) × Inside (length nodemap.old) (take n kept.now) }
     ensures { nodemap.new ≡ rows (placed (take n kept.now) first nodemap.old) (length nodemap.old) }
 {
-    let mut i = n;
-    while 0 < i {
-        i -= 1;
+    for i in (0..n).rev() {
         nodemap[wide(kept[i])] = (first + i) as u32;
     }
 }

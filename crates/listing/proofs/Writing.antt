@@ -41,6 +41,13 @@ wrote_byte o v old h = record {
   cells = set_split old o v h ∙ ap (λ j. take o old ++ (v ∷ drop j old)) (sym (add-one o));
 }
 
+-- a part that was copied over
+pub wrote_part : (o : ℕ) (new old : List ℕ) {part : List ℕ} → o + length new ≤ length old → part ≡ new → Wrote o new old (take o old ++ (part ++ drop (o + length new - o) (drop o old))) (o + length new)
+unfolding lay
+wrote_part o new old h e =
+    let q : o + (o + length new - o) ≡ o + length new = omega arith in
+    record { fits = h; next = refl; cells = ap₂ (λ (p r : List ℕ). take o old ++ (p ++ r)) e (drop-drop (o + length new - o) o old ∙ ap (λ j. drop j old) q) }
+
 -- a writer changes no length
 pub wrote_length : {o r : ℕ} {new old out : List ℕ} → Wrote o new old out r → length out ≡ length old
 wrote_length {o} {r} {new} {old} {out} w = ap length w.cells ∙ length_lay o new old w.fits
@@ -77,3 +84,7 @@ unfolding lay put
 wrote_front {r} {new} {old} {out} w =
     let q : 0 + length new ≡ length new = omega arith in
     record { count = w.next ∙ q; fits = omega (arith, w.next, w.fits); cells = w.cells ∙ ap (λ j. new ++ drop j old) q }
+
+-- the bytes of a page are those that were lent
+pub printed_on : {r : ℕ} {new old out lent : List ℕ} → Printed new old out r → lent ≡ out → Printed new old lent r
+printed_on {r} {new} {old} {out} {lent} p e = record { count = p.count; fits = p.fits; cells = e ∙ p.cells }

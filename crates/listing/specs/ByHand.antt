@@ -1,5 +1,5 @@
 -- Lines of the listing program by hand, by computing the definitions; 01's listing itself is in crate meaning.
-use Rattle.std.specs.Prelude.{◌≡◌, refl, List, [], ◌∷◌, ℕ}
+use Rattle.std.specs.Prelude.{◌≡◌, refl, [], ◌∷◌}
 use Rattle.meaning.specs.Printed.{refused_line, too_long}
 
 pub record ByHand : Type 0 where

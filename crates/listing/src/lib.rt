@@ -11,6 +11,8 @@ ghost use Rattle.meaning.specs.Rows.{node_table, edge_table, site_table, mutatio
 ghost use Rattle.meaning.specs.Printed.{listed, refused_line, too_long};
 ghost use Rattle.listing.specs.Written.{Printed, room};
 
+use put::Page;
+
 // The listing, whole, at the front of out; the number of its bytes.
 pub fn list(
     len: u32,
@@ -37,12 +39,14 @@ pub fn list(
         (site_table position.now ancestral.now)
         (mutation_table site.now node.now derived.now)) map.now) out.old out.new result }
 {
-    let a = put::one(out, 0, 81, len as usize);
-    let b = tables::nodes(out, a, time, birth, population);
-    let c = tables::edges(out, b, left, right, parent, child);
-    let d = tables::sites(out, c, position, ancestral);
-    let e = tables::mutations(out, d, site, node, derived);
-    tables::mapping(out, e, map)
+    let mut page = Page { out, len: 0 };
+    page.line(b'Q', &[len as usize]);
+    tables::nodes(&mut page, time, birth, population);
+    tables::edges(&mut page, left, right, parent, child);
+    tables::sites(&mut page, position, ancestral);
+    tables::mutations(&mut page, site, node, derived);
+    tables::mapping(&mut page, map);
+    page.len
 }
 
 // The line that a refusal prints.
@@ -50,10 +54,12 @@ pub fn refused_line(number: u32, row: usize, out: &mut [u8]) -> usize
     requires { 40 ≤ length out.old }
     ensures { Printed (refused_line number row) out.old out.new result }
 {
-    let a = put::word(out, 0, b"refused");
-    let b = put::field(out, a, number as usize);
-    let c = put::field(out, b, row);
-    put::byte(out, c, 10)
+    let mut page = Page { out, len: 0 };
+    page.word(b"refused");
+    page.field(number as usize);
+    page.field(row);
+    page.byte(b'\n');
+    page.len
 }
 
 // The line that a longer input prints.
@@ -61,5 +67,7 @@ pub fn too_long(out: &mut [u8]) -> usize
     requires { 9 ≤ length out.old }
     ensures { Printed too_long out.old out.new result }
 {
-    put::word(out, 0, b"too long\n")
+    let mut page = Page { out, len: 0 };
+    page.word(b"too long\n");
+    page.len
 }

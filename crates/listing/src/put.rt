@@ -1,115 +1,94 @@
-// Writing fields and lines into lent bytes at an offset; each function gives the offset behind what it wrote.
-ghost use Rattle.std.specs.Prelude.{[], ◌∷◌, ◌+◌, ◌<◌, ◌≤◌, length};
+// Writing fields and lines on a page: lent bytes, with how many of them are written.
+ghost use Rattle.std.specs.Prelude.{◌≡◌, [], ◌∷◌, ◌+◌, ◌<◌, ◌≤◌, length};
 ghost use Rattle.meaning.specs.Printed.{decimal, numbers, lines, out_row};
 ghost use Rattle.listing.specs.Written.{Wrote, spaced};
 
-pub fn byte(out: &mut [u8], at: usize, b: u8) -> usize
-    requires { at + length (b ∷ []) ≤ length out.old }
-    ensures { Wrote at (b ∷ []) out.old out.new result }
-{
-    out[at] = b;
-    at + 1
+use meaning::MapTable;
+
+// The lent bytes, and how many of them are written. Each writer goes on behind those, on the same bytes.
+#[derive(Drop)]
+pub struct Page<'a> {
+    pub out: &'a mut [u8],
+    pub len: usize,
 }
 
-// A number in decimal digits. It calls itself for all digits but the last; the number falls.
-pub fn number(out: &mut [u8], at: usize, n: usize) -> usize
-    requires { at + length (decimal n) ≤ length out.old }
-    ensures { Wrote at (decimal n) out.old out.new result }
-{
-    if n < 10 {
-        return byte(out, at, 48 + n as u8);
+impl<'a> Page<'a> {
+    pub fn byte(&mut self, b: u8)
+        requires { self.old.len + length (b ∷ []) ≤ length self.old.out.now }
+        ensures wrote { Wrote self.old.len (b ∷ []) self.old.out.now self.new.out.now self.new.len }
+        ensures same { self.new.out.ghost_name ≡ self.old.out.ghost_name }
+    {
+        self.out[self.len] = b;
+        self.len += 1;
     }
-    let p = number(out, at, n / 10);
-    byte(out, p, 48 + (n % 10) as u8)
-}
 
-// A space and a number.
-pub fn field(out: &mut [u8], at: usize, n: usize) -> usize
-    requires { at + length (32 ∷ decimal n) ≤ length out.old }
-    ensures { Wrote at (32 ∷ decimal n) out.old out.new result }
-{
-    let p = byte(out, at, 32);
-    number(out, p, n)
-}
-
-// Each number after a space.
-fn fields(out: &mut [u8], start: usize, ns: &[usize]) -> usize
-    requires { start + length (lines (spaced ns.now) (length ns.now)) ≤ length out.old }
-    ensures { Wrote start (lines (spaced ns.now) (length ns.now)) out.old out.new result }
-{
-    let mut at = start;
-    let mut j = 0;
-    while j < ns.len() {
-        at = field(out, at, ns[j]);
-        j += 1;
+    // A number in decimal digits. It calls itself for all digits but the last; the number falls.
+    pub fn number(&mut self, n: usize)
+        requires { self.old.len + length (decimal n) ≤ length self.old.out.now }
+        ensures wrote { Wrote self.old.len (decimal n) self.old.out.now self.new.out.now self.new.len }
+        ensures same { self.new.out.ghost_name ≡ self.old.out.ghost_name }
+    {
+        if n < 10 {
+            self.byte(b'0' + n as u8);
+            return;
+        }
+        self.number(n / 10);
+        self.byte(b'0' + (n % 10) as u8);
     }
-    at
-}
 
-// A line of a letter and numbers.
-pub fn line(out: &mut [u8], at: usize, letter: u8, ns: &[usize]) -> usize
-    requires { at + length (numbers letter ns.now) ≤ length out.old }
-    ensures { Wrote at (numbers letter ns.now) out.old out.new result }
-{
-    let p = byte(out, at, letter);
-    let q = fields(out, p, ns);
-    byte(out, q, 10)
-}
-
-// The same with the numbers one by one.
-pub fn one(out: &mut [u8], at: usize, letter: u8, a: usize) -> usize
-    requires { at + length (numbers letter (a ∷ [])) ≤ length out.old }
-    ensures { Wrote at (numbers letter (a ∷ [])) out.old out.new result }
-{
-    let ns = [a];
-    line(out, at, letter, &ns)
-}
-
-pub fn two(out: &mut [u8], at: usize, letter: u8, a: usize, b: usize) -> usize
-    requires { at + length (numbers letter (a ∷ b ∷ [])) ≤ length out.old }
-    ensures { Wrote at (numbers letter (a ∷ b ∷ [])) out.old out.new result }
-{
-    let ns = [a, b];
-    line(out, at, letter, &ns)
-}
-
-pub fn three(out: &mut [u8], at: usize, letter: u8, a: usize, b: usize, c: usize) -> usize
-    requires { at + length (numbers letter (a ∷ b ∷ c ∷ [])) ≤ length out.old }
-    ensures { Wrote at (numbers letter (a ∷ b ∷ c ∷ [])) out.old out.new result }
-{
-    let ns = [a, b, c];
-    line(out, at, letter, &ns)
-}
-
-pub fn four(out: &mut [u8], at: usize, letter: u8, a: usize, b: usize, c: usize, d: usize) -> usize
-    requires { at + length (numbers letter (a ∷ b ∷ c ∷ d ∷ [])) ≤ length out.old }
-    ensures { Wrote at (numbers letter (a ∷ b ∷ c ∷ d ∷ [])) out.old out.new result }
-{
-    let ns = [a, b, c, d];
-    line(out, at, letter, &ns)
-}
-
-// The bytes of a word.
-pub fn word(out: &mut [u8], start: usize, w: &[u8]) -> usize
-    requires { start + length w.now ≤ length out.old }
-    ensures { Wrote start w.now out.old out.new result }
-{
-    let mut at = start;
-    let mut j = 0;
-    while j < w.len() {
-        at = byte(out, at, w[j]);
-        j += 1;
+    // A space and a number.
+    pub fn field(&mut self, n: usize)
+        requires { self.old.len + length (32 ∷ decimal n) ≤ length self.old.out.now }
+        ensures wrote { Wrote self.old.len (32 ∷ decimal n) self.old.out.now self.new.out.now self.new.len }
+        ensures same { self.new.out.ghost_name ≡ self.old.out.ghost_name }
+    {
+        self.byte(b' ');
+        self.number(n);
     }
-    at
-}
 
-// An output row, or `-` for none.
-pub fn out_row(out: &mut [u8], at: usize, row: usize) -> usize
-    requires { at + length (out_row row) ≤ length out.old }
-    ensures { Wrote at (out_row row) out.old out.new result }
-{
-    if row == 4294967295 {
-        return byte(out, at, 45);
+    // Each number after a space.
+    fn fields(&mut self, ns: &[usize])
+        requires { self.old.len + length (lines (spaced ns.now) (length ns.now)) ≤ length self.old.out.now }
+        ensures wrote { Wrote self.old.len (lines (spaced ns.now) (length ns.now)) self.old.out.now self.new.out.now self.new.len }
+        ensures same { self.new.out.ghost_name ≡ self.old.out.ghost_name }
+    {
+        for n in ns {
+            self.field(*n);
+        }
     }
-    number(out, at, row)
+
+    // A line of a letter and numbers.
+    pub fn line(&mut self, letter: u8, ns: &[usize])
+        requires { self.old.len + length (numbers letter ns.now) ≤ length self.old.out.now }
+        ensures wrote { Wrote self.old.len (numbers letter ns.now) self.old.out.now self.new.out.now self.new.len }
+        ensures same { self.new.out.ghost_name ≡ self.old.out.ghost_name }
+    {
+        self.byte(letter);
+        self.fields(ns);
+        self.byte(b'\n');
+    }
+
+    // The bytes of a word.
+    pub fn word(&mut self, w: &[u8])
+        requires { self.old.len + length w.now ≤ length self.old.out.now }
+        ensures wrote { Wrote self.old.len w.now self.old.out.now self.new.out.now self.new.len }
+        ensures same { self.new.out.ghost_name ≡ self.old.out.ghost_name }
+    {
+        let end = self.len + w.len();
+        self.out[self.len..end].copy_from_slice(w);
+        self.len = end;
+    }
+
+    // An output row, or `-` for none.
+    pub fn out_row(&mut self, row: usize)
+        requires { self.old.len + length (out_row row) ≤ length self.old.out.now }
+        ensures wrote { Wrote self.old.len (out_row row) self.old.out.now self.new.out.now self.new.len }
+        ensures same { self.new.out.ghost_name ≡ self.old.out.ghost_name }
+    {
+        if row == MapTable::NONE as usize {
+            self.byte(b'-');
+            return;
+        }
+        self.number(row);
+    }
 }

@@ -1,82 +1,62 @@
-// The lines of each table, one for a row; the first column counts the rows.
-ghost use Rattle.std.specs.Prelude.{◌+◌, ◌<◌, ◌≤◌, length};
+// The lines of each table, one for a row; the first column counts the rows. Each loop has its own columns, so there is no loop
+// to share.
+ghost use Rattle.std.specs.Prelude.{◌≡◌, ◌+◌, ◌<◌, ◌≤◌, length};
 ghost use Rattle.meaning.specs.Rows.{node_table, edge_table, site_table, mutation_table};
 ghost use Rattle.meaning.specs.Printed.{lines, node_line, edge_line, site_line, mutation_line, map_line};
 ghost use Rattle.listing.specs.Written.{Wrote};
 
+use crate::put::Page;
 use crate::rows;
 
-pub fn nodes(out: &mut [u8], start: usize, time: &[u32], birth: &[u32], population: &[u16]) -> usize
-    requires { start + length (lines (node_line (node_table time.now birth.now population.now)) (length time.now)) ≤ length out.old }
-    ensures { Wrote start (lines (node_line (node_table time.now birth.now population.now)) (length time.now)) out.old out.new result }
+pub fn nodes(page: &mut Page, time: &[u32], birth: &[u32], population: &[u16])
+    requires { page.old.len + length (lines (node_line (node_table time.now birth.now population.now)) (length time.now)) ≤ length page.old.out.now }
+    ensures wrote { Wrote page.old.len (lines (node_line (node_table time.now birth.now population.now)) (length time.now)) page.old.out.now page.new.out.now page.new.len }
+    ensures same { page.new.out.ghost_name ≡ page.old.out.ghost_name }
 {
-    let mut at = start;
-    let mut i = 0;
-    while i < time.len() {
-        at = rows::node(out, at, time, birth, population, i);
-        i += 1;
+    for i in 0..time.len() {
+        rows::node(page, time, birth, population, i);
     }
-    at
 }
 
-pub fn edges(
-    out: &mut [u8],
-    start: usize,
-    left: &[u32],
-    right: &[u32],
-    parent: &[u32],
-    child: &[u32],
-) -> usize
-    requires { start + length (lines (edge_line (edge_table left.now right.now parent.now child.now)) (length left.now)) ≤ length out.old }
-    ensures { Wrote start (lines (edge_line
-        (edge_table left.now right.now parent.now child.now)) (length left.now)) out.old out.new result }
+pub fn edges(page: &mut Page, left: &[u32], right: &[u32], parent: &[u32], child: &[u32])
+    requires { page.old.len + length (lines (edge_line (edge_table left.now right.now parent.now child.now)) (length left.now)) ≤ length page.old.out.now }
+    ensures wrote { Wrote page.old.len (lines (edge_line
+        (edge_table left.now right.now parent.now child.now)) (length left.now)) page.old.out.now page.new.out.now page.new.len }
+    ensures same { page.new.out.ghost_name ≡ page.old.out.ghost_name }
 {
-    let mut at = start;
-    let mut i = 0;
-    while i < left.len() {
-        at = rows::edge(out, at, left, right, parent, child, i);
-        i += 1;
+    for i in 0..left.len() {
+        rows::edge(page, left, right, parent, child, i);
     }
-    at
 }
 
-pub fn sites(out: &mut [u8], start: usize, position: &[u32], ancestral: &[u8]) -> usize
-    requires { start + length (lines (site_line (site_table position.now ancestral.now)) (length position.now)) ≤ length out.old }
-    ensures { Wrote start (lines (site_line (site_table position.now ancestral.now)) (length position.now)) out.old out.new result }
+pub fn sites(page: &mut Page, position: &[u32], ancestral: &[u8])
+    requires { page.old.len + length (lines (site_line (site_table position.now ancestral.now)) (length position.now)) ≤ length page.old.out.now }
+    ensures wrote { Wrote page.old.len (lines (site_line (site_table position.now ancestral.now)) (length position.now)) page.old.out.now page.new.out.now page.new.len }
+    ensures same { page.new.out.ghost_name ≡ page.old.out.ghost_name }
 {
-    let mut at = start;
-    let mut i = 0;
-    while i < position.len() {
-        at = rows::site(out, at, position, ancestral, i);
-        i += 1;
+    for i in 0..position.len() {
+        rows::site(page, position, ancestral, i);
     }
-    at
 }
 
-pub fn mutations(out: &mut [u8], start: usize, site: &[u32], node: &[u32], derived: &[u8]) -> usize
-    requires { start + length (lines (mutation_line (mutation_table site.now node.now derived.now)) (length site.now)) ≤ length out.old }
-    ensures { Wrote start (lines (mutation_line
-        (mutation_table site.now node.now derived.now)) (length site.now)) out.old out.new result }
+pub fn mutations(page: &mut Page, site: &[u32], node: &[u32], derived: &[u8])
+    requires { page.old.len + length (lines (mutation_line (mutation_table site.now node.now derived.now)) (length site.now)) ≤ length page.old.out.now }
+    ensures wrote { Wrote page.old.len (lines (mutation_line
+        (mutation_table site.now node.now derived.now)) (length site.now)) page.old.out.now page.new.out.now page.new.len }
+    ensures same { page.new.out.ghost_name ≡ page.old.out.ghost_name }
 {
-    let mut at = start;
-    let mut i = 0;
-    while i < site.len() {
-        at = rows::mutation(out, at, site, node, derived, i);
-        i += 1;
+    for i in 0..site.len() {
+        rows::mutation(page, site, node, derived, i);
     }
-    at
 }
 
 // The node map's lines.
-pub fn mapping(out: &mut [u8], start: usize, map: &[u32]) -> usize
-    requires { start + length (lines (map_line map.now) (length map.now)) ≤ length out.old }
-    ensures { Wrote start (lines (map_line map.now) (length map.now)) out.old out.new result }
+pub fn mapping(page: &mut Page, map: &[u32])
+    requires { page.old.len + length (lines (map_line map.now) (length map.now)) ≤ length page.old.out.now }
+    ensures wrote { Wrote page.old.len (lines (map_line map.now) (length map.now)) page.old.out.now page.new.out.now page.new.len }
+    ensures same { page.new.out.ghost_name ≡ page.old.out.ghost_name }
 {
-    let mut at = start;
-    let mut i = 0;
-    while i < map.len() {
-        at = rows::mapped(out, at, map, i);
-        i += 1;
+    for i in 0..map.len() {
+        rows::mapped(page, map, i);
     }
-    at
 }

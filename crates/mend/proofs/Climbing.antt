@@ -1,6 +1,6 @@
 -- What a climb leaves standing.
 use Rattle.std.proofs.Common.{◌≡◌, ℕ, ◌+◌, ◌<◌, ◌≤◌, Bool, true, false, ltb, ◌⊎◌, List, length, get_or, set, sym, refl, ap, ◌∙◌, subst, inl, inr, ⊎_elim, arith, get_or-set_other, get_or-set_same, le-ltb, lt-ltb}
-use mathlib.Core.Option.{Option, none, some}
+use mathlib.Core.Option.{Option, some}
 use Rattle.meaning.specs.Words.{or}
 use Rattle.meaning.specs.Forest.{Par}
 use Rattle.laws.specs.Bools.{clash, eq?}

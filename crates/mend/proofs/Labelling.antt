@@ -1,6 +1,6 @@
 -- A relabelling row by row, by calls and by a loop over them: a row is never the cell that means none, and the parent has fewer older rows.
 use Rattle.std.proofs.Common.{◌≡◌, ℕ, zero, suc, ◌<◌, ◌≤◌, Bool, true, false, ◌⊎◌, List, [], ◌∷◌, length, get_or, set, sym, refl, ap, ◌∙◌, subst, inl, inr, ⊎_elim, arith, length-set, get_or-set_other, get_or-set_same}
-use mathlib.Core.Option.{none, some}
+use mathlib.Core.Option.{some}
 use Rattle.meaning.specs.Forest.{Par}
 use Rattle.laws.specs.Bools.{clash, eq?, some_inj, none_some}
 use Rattle.ancestry.specs.Column.{older}
@@ -8,8 +8,8 @@ use Rattle.ancestry.specs.Older.{older_falls}
 use Rattle.mend.specs.Right as right
 use Rattle.mend.specs.Right.{stands, Grows}
 use Rattle.mend.specs.Line.{par_of, opt, Over, root, hit, on, Pass, start, next}
-use Rattle.mend.specs.declared.low.Label.{Label}
-use Rattle.mend.specs.declared.low.Label.TheVariants.{Done, From}
+use Rattle.std.specs.declared.ops.ControlFlow.{ControlFlow}
+use Rattle.std.specs.declared.ops.ControlFlow.TheVariants.{Continue, Break}
 use Rattle.mend.specs.Labels.{Labelling, Relabelled, Onward, Led}
 use Rattle.mend.proofs.Reading.{of_par, no_parent, opt_none, opt_some}
 
@@ -55,17 +55,17 @@ module _ {T S P C D : List ℕ} {q : ℕ} (lb : Labelling T S P C D q) (K : ℕ 
   alone h = record { long = length-set D q w; cell = λ v. ⊎_elim (λ (e : v ≡ q). inl (subst (λ (x : ℕ). Pass (par_of P) K q x × (get_or (set D q w) x 0 ≡ w)) (sym e) (start, here))) (λ (m : v ≡ q → ⊥). inr ((λ p. m (h v p)), get_or-set_other D q v w 0 m)) (eq? v q) }
 
   -- the way ends at a row that has no parent
-  pub label_top : get_or P q 0 ≡ right.none → Led T P K w D (set D q w) q (Done right.none)
+  pub label_top : get_or P q 0 ≡ right.none → Led T P K w D (set D q w) q (Break (get_or P q 0))
   label_top z =
       let e : _ = no_parent P q lb.row z in
-      (alone (λ v p. ⊎_elim (λ h. h) (λ f. absurd (none_some e f.1)) (pass_rest p)), root e (opt_none right.none refl))
+      (alone (λ v p. ⊎_elim (λ h. h) (λ f. absurd (none_some e f.1)) (pass_rest p)), root e (opt_none (get_or P q 0) z))
 
   module _ (z : get_or P q 0 ≡ right.none → ⊥) where
     parent : par_of P q ≡ some (get_or P q 0)
     parent = of_par P q lb.row z
 
     -- and below a row that stands
-    pub label_stop : K (get_or P q 0) ≡ true → Led T P K w D (set D q w) q (Done (get_or P q 0))
+    pub label_stop : K (get_or P q 0) ≡ true → Led T P K w D (set D q w) q (Break (get_or P q 0))
     label_stop k = (alone (λ v p. ⊎_elim (λ e. e) (λ f. absurd (clash (ap K (some_inj f.1 parent) ∙ k) f.2)) (pass_rest p)), hit parent k (opt_some (get_or P q 0) z))
 
     module _ (k : K (get_or P q 0) ≡ false) where
@@ -87,9 +87,9 @@ module _ {T S P C D : List ℕ} {q : ℕ} (lb : Labelling T S P C D q) (K : ℕ 
       label_from = record { row = lb.grows.inside q lb.row z; fewer = fewer_older T P q lb.grows lb.row z; rest = label_rest; over = λ r o. on parent k o }
 
 -- what a call leaves that went on from where another came to
-pub led_on : {T P : List ℕ} {K : ℕ → Bool} {w : ℕ} {D D₁ : List ℕ} (D' : List ℕ) {q o : ℕ} → Onward T P K w D D₁ q o → (r : Label) → Led T P K w D₁ D' o r → Led T P K w D D' q r
-led_on D' n (Done r) s = (n.rest D' s.0, n.over r s.1)
-led_on D' n (From o) s = record { row = s.row; fewer = omega (arith, s.fewer, n.fewer); rest = λ E t. n.rest E (s.rest E t); over = λ r t. n.over r (s.over r t) }
+pub led_on : {T P : List ℕ} {K : ℕ → Bool} {w : ℕ} {D D₁ : List ℕ} (D' : List ℕ) {q o : ℕ} → Onward T P K w D D₁ q o → (r : ControlFlow ℕ ℕ) → Led T P K w D₁ D' o r → Led T P K w D D' q r
+led_on D' n (Break r) s = (n.rest D' s.0, n.over r s.1)
+led_on D' n (Continue o) s = record { row = s.row; fewer = omega (arith, s.fewer, n.fewer); rest = λ E t. n.rest E (s.rest E t); over = λ r t. n.over r (s.over r t) }
 
 -- and the columns that it goes by
 pub led_next : {T S P C D D₁ : List ℕ} {K : ℕ → Bool} {w q o : ℕ} → Labelling T S P C D q → length D₁ ≡ length D → Onward T P K w D D₁ q o → Labelling T S P C D₁ o
@@ -107,18 +107,18 @@ pub record Underway (T S P C D₀ D : List ℕ) (w q v : ℕ) : Type 0 where
 pub set_out : {T S P C D : List ℕ} (w : ℕ) {q : ℕ} → Labelling T S P C D q → Underway T S P C D D w q q
 set_out w l = record { labelling = l; long = refl; rest = λ E r. r; over = λ r o. o }
 
-module _ {T S P C D₀ D D' : List ℕ} {w q v : ℕ} (u : Underway T S P C D₀ D w q v) (s : Label) (h : Led T P (stands S C) w D D' v s) where
-  pub told_done : {r : ℕ} → s ≡ Done r → Relabelled P (stands S C) w D₀ D' q × Over (par_of P) (stands S C) (opt r) q
-  told_done {r} e = let d : Led T P (stands S C) w D D' v (Done r) = subst (λ (s : Label). Led T P (stands S C) w D D' v s) e h in (u.rest D' d.0, u.over r d.1)
+module _ {T S P C D₀ D D' : List ℕ} {w q v : ℕ} (u : Underway T S P C D₀ D w q v) (s : ControlFlow ℕ ℕ) (h : Led T P (stands S C) w D D' v s) where
+  pub told_done : {r : ℕ} → s ≡ Break r → Relabelled P (stands S C) w D₀ D' q × Over (par_of P) (stands S C) (opt r) q
+  told_done {r} e = let d : Led T P (stands S C) w D D' v (Break r) = subst (λ (s : ControlFlow ℕ ℕ). Led T P (stands S C) w D D' v s) e h in (u.rest D' d.0, u.over r d.1)
 
-  pub told_from : {o : ℕ} → s ≡ From o → Onward T P (stands S C) w D D' v o
-  told_from e = subst (λ (s : Label). Led T P (stands S C) w D D' v s) e h
+  pub told_from : {o : ℕ} → s ≡ Continue o → Onward T P (stands S C) w D D' v o
+  told_from e = subst (λ (s : ControlFlow ℕ ℕ). Led T P (stands S C) w D D' v s) e h
 
   -- rows that were passed before, and the ones passed now
-  pub told_on : {o : ℕ} → s ≡ From o → older T v ≤ older T q → Onward T P (stands S C) w D₀ D' q o
+  pub told_on : {o : ℕ} → s ≡ Continue o → older T v ≤ older T q → Onward T P (stands S C) w D₀ D' q o
   told_on e b = let n : _ = told_from e in record { row = n.row; fewer = omega (arith, n.fewer, b); rest = λ E t. u.rest E (n.rest E t); over = λ r t. u.over r (n.over r t) }
 
-  pub go_on : {o : ℕ} → length D' ≡ length D → s ≡ From o → Underway T S P C D₀ D' w q o
+  pub go_on : {o : ℕ} → length D' ≡ length D → s ≡ Continue o → Underway T S P C D₀ D' w q o
   go_on k e =
       let n : _ = told_from e in
       let l : _ = u.labelling in

@@ -2,9 +2,8 @@
 use Rattle.std.proofs.Common.{◌≡◌, ℕ, ◌+◌, ◌-◌, ◌%◌, ◌<◌, ◌≤◌, Bool, true, false, eqb, ltb, List, length, get_or, set, sym, refl, ◌∙◌, subst, arith, length-set, get_or-set_other, get_or-set_same, le-ltb, lt-ltb, eq-eqb, ne_eqb, eqb-true}
 use mathlib.Core.Path.{fun_ext}
 use borrow.Author.Tests.{eqb-false}
-use Rattle.meaning.specs.Words.{and}
 use Rattle.laws.specs.Bools.{or_right}
-use Rattle.mend.specs.Right.{none, W, pick, total, one, row, live, feeds, By, Lacks, Excess, Right, Shape, Grows, climb}
+use Rattle.mend.specs.Right.{none, W, pick, total, one, live, feeds, By, Lacks, Excess, Right, Shape, Grows, climb}
 use Rattle.mend.proofs.Totals.{and_false, and_true, More, grow, shrink, bumped, taken, lacks_none, excess_none, total_le}
 
 -- what lives after a store to q

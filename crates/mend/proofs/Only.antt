@@ -1,6 +1,6 @@
 -- Where a row lives and does not stand, its sum is its only live child.
 use Rattle.std.proofs.Common.{◌≡◌, ℕ, zero, suc, ◌+◌, ◌%◌, ◌<◌, ◌≤◌, Bool, true, false, ◌⊎◌, List, length, get_or, sym, refl, ap, ◌∙◌, subst, inl, inr, ⊎_elim, add-zero, mod-eq_of_lt, arith}
-use mathlib.Core.Option.{none, some}
+use mathlib.Core.Option.{some}
 use Rattle.laws.specs.Bools.{eq?}
 use Rattle.mend.specs.Right as right
 use Rattle.mend.specs.Right.{W, pick, total, one, row, live, stands, feeds, Right, Shape, Grows}

@@ -2,7 +2,7 @@
 use Rattle.std.proofs.Common.{◌≡◌, ℕ, zero, suc, ◌+◌, ◌-◌, ◌%◌, ◌<◌, ◌≤◌, Bool, true, false, eqb, List, length, get_or, set, sym, refl, ap, ◌∙◌, ap₂, ⊎_elim, le_of_suc-le-suc, add-zero, mod-lt, mod-eq_of_lt, eq-or-lt_of_le, arith, get_or-set_other, get_or-set_same, ne_eqb, eqb-true}
 use native.Mathlib.Nat.{mod-add-mod, add-mod_right}
 use borrow.Author.Tests.{eqb-false}
-use Rattle.meaning.specs.Words.{and, or}
+use Rattle.meaning.specs.Words.{and}
 use Rattle.mend.specs.Right.{none, W, pick, total, one, row, By, Lacks, Excess}
 
 -- a total after one more row passes

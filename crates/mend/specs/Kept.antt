@@ -1,5 +1,7 @@
 -- The state of the tree's columns between two edges.
-use Rattle.std.specs.Prelude.{◌≡◌, ℕ, ◌<◌, true, false, List, length, slice_index, slice_index_or}
+use Rattle.std.specs.Prelude.{◌≡◌, ℕ, ◌<◌, true, false, List, length, replicate, slice_index, slice_index_or}
+use Rattle.std.proofs.Common.{ap, ◌∙◌}
+use Rattle.std.proofs.lemmas.List.{length-replicate, get_or-replicate}
 use Rattle.mend.specs.Right.{live, stands, Right, Shape, Grows}
 use Rattle.mend.specs.Line.{par_of, opt, Low, Over}
 
@@ -37,3 +39,10 @@ pub record Enters (T P : List ℕ) (c p : ℕ) : Type 0 where
 pub record Filled (X : List ℕ) (n v : ℕ) : Type 0 where
   pub long : length X ≡ n
   pub cells : (u : ℕ) → u < n → slice_index X u ≡ v
+
+-- one value in every cell
+pub filled : {X : List ℕ} {n v : ℕ} → X ≡ replicate n v → Filled X n v
+filled {n = n} {v} e = record {
+  long = ap length e ∙ length-replicate n v;
+  cells = λ u l. ap (λ (x : List ℕ). slice_index x u) e ∙ get_or-replicate n u v 0 l;
+}

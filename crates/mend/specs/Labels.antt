@@ -3,8 +3,8 @@ use Rattle.std.specs.Prelude.{◌≡◌, ℕ, ◌<◌, ◌≤◌, Bool, ◌⊎�
 use Rattle.ancestry.specs.Column.{older}
 use Rattle.mend.specs.Right.{none, Grows}
 use Rattle.mend.specs.Line.{par_of, opt, Over, Pass}
-use Rattle.mend.specs.declared.low.Label.{Label}
-use Rattle.mend.specs.declared.low.Label.TheVariants.{Done, From}
+use Rattle.std.specs.declared.ops.ControlFlow.{ControlFlow}
+use Rattle.std.specs.declared.ops.ControlFlow.TheVariants.{Continue, Break}
 
 -- the columns that a relabelling from q on goes by
 pub record Labelling (T S P C D : List ℕ) (q : ℕ) : Type 0 where
@@ -29,6 +29,6 @@ module _ (T P : List ℕ) (K : ℕ → Bool) (w : ℕ) (D D₁ : List ℕ) where
     pub over : (r : ℕ) → Over (par_of P) K (opt r) o → Over (par_of P) K (opt r) q
 
   -- what a relabelling from q of bounded depth leaves and tells
-  abbrev pub Led : ℕ → Label → Type 0
-  Led q (Done r) = Relabelled P K w D D₁ q × Over (par_of P) K (opt r) q
-  Led q (From o) = Onward q o
+  abbrev pub Led : ℕ → ControlFlow ℕ ℕ → Type 0
+  Led q (Break r) = Relabelled P K w D D₁ q × Over (par_of P) K (opt r) q
+  Led q (Continue o) = Onward q o

@@ -9,32 +9,37 @@ pub mod turn;
 mod up;
 
 ghost use Rattle.std.specs.Prelude.{◌≡◌, ℕ, ◌+◌, ◌-◌, ◌%◌, ◌<◌, true, length, ◌≢◌, slice_index, slice_set};
-ghost use Rattle.mend.specs.Right.{none, W, live, stands, feeds, Lacks, Excess, Right, Shape, Grows};
+ghost use Rattle.mend.specs.Right.{none, W, live, stands, more, feeds, Lacks, Excess, Right, Shape, Grows};
 ghost use Rattle.mend.specs.Line.{Gained, Lost};
 
-// In a column of rows: no row.
+// In a column of rows: no row. A cell is a u32, since memory is fixed, and a row or none that goes from one cell to another stays one.
 pub const NONE: u32 = 4294967295;
 
+// u is a sample or has more than n live children.
+#[tactic(auto, unfolding(crate::specs::Right::more))]
+fn has_more(sample: &[u8], count: &[u32], n: u32, u: u32) -> bool
+    requires { (u < length sample.now) × (u < length count.now) }
+    ensures { result ≡ more sample.now count.now n u }
+{
+    0 < sample[u as usize] || n < count[u as usize]
+}
+
 // u is a sample or has a live child.
+#[tactic(auto, unfolding(crate::specs::Right::more, crate::specs::Right::live))]
 pub fn alive(sample: &[u8], count: &[u32], u: u32) -> bool
     requires { (u < length sample.now) × (u < length count.now) }
     ensures { result ≡ live sample.now count.now u }
 {
-    if 0 < sample[u as usize] {
-        return true;
-    }
-    0 < count[u as usize]
+    has_more(sample, count, 0, u)
 }
 
 // u is a sample or has two live children.
+#[tactic(auto, unfolding(crate::specs::Right::more, crate::specs::Right::stands))]
 fn stands_at(sample: &[u8], count: &[u32], u: u32) -> bool
     requires { (u < length sample.now) × (u < length count.now) }
     ensures { result ≡ stands sample.now count.now u }
 {
-    if 0 < sample[u as usize] {
-        return true;
-    }
-    1 < count[u as usize]
+    has_more(sample, count, 1, u)
 }
 
 // q gets the live child d.
@@ -43,8 +48,8 @@ fn bump(count: &mut [u32], sum: &mut [u32], q: u32, d: u32)
     ensures { (count.new ≡ slice_set count.old q (slice_index count.old q + 1)) × (sum.new ≡ slice_set sum.old q ((slice_index sum.old q + d) % W)) }
 {
     let i = q as usize;
-    count[i] = count[i] + 1;
-    sum[i] = std::num::wrapping_add_u32(sum[i], d);
+    count[i] += 1;
+    sum[i] = sum[i].wrapping_add(d);
 }
 
 // q loses the live child d.
@@ -53,8 +58,8 @@ fn take(count: &mut [u32], sum: &mut [u32], q: u32, d: u32)
     ensures { (count.new ≡ slice_set count.old q (slice_index count.old q - 1)) × ((s : ℕ) × (sum.new ≡ slice_set sum.old q s) × (s < W) × ((s + d) % W ≡ slice_index sum.old q)) }
 {
     let i = q as usize;
-    count[i] = count[i] - 1;
-    sum[i] = std::num::wrapping_sub_u32(sum[i], d);
+    count[i] -= 1;
+    sum[i] = sum[i].wrapping_sub(d);
 }
 
 // q0 lacks its live child d0; the rows that come to live get w as their low, and the answer is the row where mending ends.
@@ -74,6 +79,7 @@ pub fn climb_up(
 {
     let mut q = q0;
     let mut d = d0;
+    // A climb counts nothing: it goes from row to parent row.
     while q != NONE {
         let was = alive(sample, count, q);
         bump(count, sum, q, d);
@@ -102,6 +108,7 @@ pub fn climb_down(
 {
     let mut q = q0;
     let mut d = d0;
+    // A climb, as in `climb_up`.
     while q != NONE {
         take(count, sum, q, d);
         if alive(sample, count, q) {

@@ -5,6 +5,7 @@ ghost use Rattle.mend.specs.Line.{par_of, opt, Over};
 ghost use Rattle.mend.specs.Labels.{Labelling, Relabelled, Led};
 
 use super::{NONE, stands_at};
+use std::ops::ControlFlow;
 
 // How often a relabelling calls itself before it hands back the row to go on from.
 const CALLS: u32 = 64;
@@ -12,14 +13,7 @@ const CALLS: u32 = 64;
 // How many rows more one call deals with.
 const ROWS: u32 = 15;
 
-// What a relabelling comes to: the nearest standing row above or none, or the row to go on from when its rows or calls are used up.
-#[derive(Drop)]
-enum Label {
-    Done(u32),
-    From(u32),
-}
-
-// q gets w; the answer is the row above it, with whether the way goes on there.
+// q gets w. A relabelling breaks with the nearest standing row above or none, and goes on from a row when its rows or calls are used up.
 fn relabel_row(
     time: &[u32],
     sample: &[u8],
@@ -28,19 +22,16 @@ fn relabel_row(
     low: &mut [u32],
     q: u32,
     w: u32,
-) -> Label
+) -> ControlFlow<u32, u32>
     requires { Labelling time.now sample.now parent.now count.now low.old q }
     ensures { Led time.now parent.now (stands sample.now count.now) w low.old low.new q result }
 {
     low[q as usize] = w;
     let o = parent[q as usize];
-    if o == NONE {
-        return Label::Done(NONE);
+    if o == NONE || stands_at(sample, count, o) {
+        return ControlFlow::Break(o);
     }
-    if stands_at(sample, count, o) {
-        return Label::Done(o);
-    }
-    Label::From(o)
+    ControlFlow::Continue(o)
 }
 
 // The same for q and some rows above it.
@@ -52,24 +43,15 @@ fn relabel_rows(
     low: &mut [u32],
     q: u32,
     w: u32,
-) -> Label
+) -> ControlFlow<u32, u32>
     requires { Labelling time.now sample.now parent.now count.now low.old q }
     ensures { Led time.now parent.now (stands sample.now count.now) w low.old low.new q result }
 {
-    let mut v = q;
-    let mut left = ROWS;
-    loop {
-        match relabel_row(time, sample, parent, count, low, v, w) {
-            Label::Done(r) => return Label::Done(r),
-            Label::From(o) => {
-                if left == 0 {
-                    return Label::From(o);
-                }
-                v = o;
-                left -= 1;
-            }
-        }
+    let mut v = relabel_row(time, sample, parent, count, low, q, w)?;
+    for _ in 0..ROWS {
+        v = relabel_row(time, sample, parent, count, low, v, w)?;
     }
+    ControlFlow::Continue(v)
 }
 
 // The nearest standing row above q; q and the rows on the way to it get w. It calls itself; the number of older rows falls.
@@ -82,19 +64,15 @@ fn relabel_up(
     q: u32,
     w: u32,
     calls_left: u32,
-) -> Label
+) -> ControlFlow<u32, u32>
     requires { Labelling time.now sample.now parent.now count.now low.old q }
     ensures { Led time.now parent.now (stands sample.now count.now) w low.old low.new q result }
 {
-    match relabel_rows(time, sample, parent, count, low, q, w) {
-        Label::Done(r) => return Label::Done(r),
-        Label::From(o) => {
-            if calls_left == 0 {
-                return Label::From(o);
-            }
-            return relabel_up(time, sample, parent, count, low, o, w, calls_left - 1);
-        }
+    let o = relabel_rows(time, sample, parent, count, low, q, w)?;
+    if calls_left == 0 {
+        return ControlFlow::Continue(o);
     }
+    relabel_up(time, sample, parent, count, low, o, w, calls_left - 1)
 }
 
 // The same, however far that row is.
@@ -111,12 +89,11 @@ pub fn relabel(
     ensures { Relabelled parent.now (stands sample.now count.now) w low.old low.new q × Over (par_of parent.now) (stands sample.now count.now) (opt result) q }
 {
     let mut v = q;
+    // A climb counts nothing: it goes on from the row that was come to.
     loop {
         match relabel_up(time, sample, parent, count, low, v, w, CALLS) {
-            Label::Done(r) => return r,
-            Label::From(o) => {
-                v = o;
-            }
+            ControlFlow::Break(r) => return r,
+            ControlFlow::Continue(o) => v = o,
         }
     }
 }

@@ -3,22 +3,17 @@ ghost use Rattle.std.specs.Prelude.{◌≡◌, ◌<◌, length, ◌≢◌};
 ghost use Rattle.mend.specs.Listing.{Listed, Noted};
 ghost use Rattle.mend.specs.Turns.{settled, Gaining, Gain, Losing, Loss};
 
-use super::NONE;
 use super::low::relabel;
 use super::up::{cede, put_up, seat};
+use super::{NONE, has_more};
 
 // s is no row, or a sample, or has more than n live children.
+#[tactic(auto, unfolding(crate::specs::Turns::settled))]
 fn is_settled(sample: &[u8], count: &[u32], n: u32, s: u32) -> bool
     requires { (s ≢ 4294967295) → (s < length sample.now) × (s < length count.now) }
     ensures { result ≡ settled sample.now count.now n s }
 {
-    if s == NONE {
-        return true;
-    }
-    if 0 < sample[s as usize] {
-        return true;
-    }
-    n < count[s as usize]
+    s == NONE || has_more(sample, count, n, s)
 }
 
 // s, a live row or none, has got a live child below which w stands. The answer is the new number of listed rows.

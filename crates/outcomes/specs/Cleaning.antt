@@ -1,8 +1,8 @@
 -- A cleaning's outcome fixes the code's answer, the tables and the map, so no two outcomes meet the promise of `cleaner::clean`.
-use Rattle.std.specs.Prelude.{◌≡◌, refl, true, false, List, ℕ, Ok, Err}
-use Rattle.std.proofs.Common.{sym, ap, ap₂, ◌∙◌}
+use Rattle.std.specs.Prelude.{◌≡◌, refl, List, ℕ, Ok, Err}
+use Rattle.std.proofs.Common.{sym, ap, ◌∙◌}
 use Rattle.meaning.specs.Rows.{Tables}
-use Rattle.meaning.specs.Answer.{Answer, done, accepted, refusal_of}
+use Rattle.meaning.specs.Answer.{done, accepted, refusal_of}
 use Rattle.meaning.specs.Lent.{Counts}
 use Rattle.meaning.specs.Clean.{Outcome, outcome_of}
 use Rattle.meaning.specs.declared.Refusal.{Refusal}

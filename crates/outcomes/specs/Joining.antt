@@ -1,5 +1,5 @@
 -- A join's outcome fixes the code's answer and the tables, so no two outcomes meet the promise of `joiner::join`.
-use Rattle.std.specs.Prelude.{◌≡◌, refl, ℕ, Ok, Err}
+use Rattle.std.specs.Prelude.{◌≡◌, refl, Ok, Err}
 use Rattle.std.proofs.Common.{sym, ap, ◌∙◌}
 use Rattle.meaning.specs.Rows.{Tables}
 use Rattle.meaning.specs.Lent.{Counts}

@@ -2,30 +2,31 @@
 
 #![tactic(auto)]
 
-ghost use Rattle.std.specs.Prelude.{◌≡◌, ℕ, ◌<◌, length};
+ghost use Rattle.std.specs.Prelude.{◌≡◌, ℕ, ◌<◌, length, IfSome, unwrap_or};
+ghost use Rattle.bridge.specs.Parents.{no_row};
 ghost use Rattle.mend.specs.Kept.{Mended, LowOk};
 ghost use Rattle.placing.specs.Placing.{Taken, Placeable, Placed};
 
 // How far the mutations are placed, and how many of them move.
-#[derive(Drop)]
+#[derive(Clone, Copy, Debug, PartialEq, Eq)]
 pub struct Marks {
     pub placed: usize,
     pub kept: usize,
 }
 
 // Lists mutation m, which goes to the row w, while there is a cell; nothing where w is none. The answer is the new number of those that move.
-fn keep(mrow: &mut [u32], mlow: &mut [u32], k: usize, m: u32, w: u32) -> usize
-    requires { (length mlow.old ≡ length mrow.old) × (k < 4294967295) }
-    ensures { Taken m w (record { row = mrow.old; low = mlow.old; count = k }) (record { row = mrow.new; low = mlow.new; count = result }) }
+fn keep(mrow: &mut [u32], mlow: &mut [u32], k: usize, m: u32, w: Option<u32>) -> usize
+    requires { (length mlow.old ≡ length mrow.old) × (k < 4294967295) × IfSome w (λ r. r < no_row) }
+    ensures { Taken m (unwrap_or w no_row) (record { row = mrow.old; low = mlow.old; count = k }) (record { row = mrow.new; low = mlow.new; count = result }) }
 {
-    if w == tree::NONE {
+    let Some(r) = w else {
         return k;
-    }
+    };
     if mrow.len() <= k {
         return k + 1;
     }
     mrow[k] = m;
-    mlow[k] = w;
+    mlow[k] = r;
     k + 1
 }
 
@@ -49,16 +50,17 @@ pub fn place(
     requires { Mended time.now sample.now par.now count.now sum.now × LowOk sample.now par.now count.now low.now × Placeable position.now site.now node.now (record { row = mrow.old; low = mlow.old; count = k0 }) (length par.now) m0 }
     ensures { Placed sample.now par.now position.now site.now node.now next (record { row = mrow.old; low = mlow.old; count = k0 }) m0 (record { row = mrow.new; low = mlow.new; count = result.kept }) result.placed }
 {
-    let mut m = m0;
     let mut k = k0;
-    while m < site.len() {
+    for m in m0..site.len() {
         let s = site[m];
         if next <= position[s as usize] {
             return Marks { placed: m, kept: k };
         }
         let w = tree::low_at(time, sample, par, count, sum, low, node[m]);
         k = keep(mrow, mlow, k, m as u32, w);
-        m += 1;
     }
-    Marks { placed: m, kept: k }
+    Marks {
+        placed: site.len(),
+        kept: k,
+    }
 }

@@ -15,13 +15,6 @@ use Rattle.rules.specs.Lined.{Lined, Next, related}
 pub lined_row : (R : ℕ → ℕ → Bool) (n : ℕ) (idx : List ℕ) → Lined R n idx → (p : ℕ) → p < length idx → at idx p < n
 lined_row R n idx L p h = L.row p (omega (arith, L.long))
 
--- places skipped, and one more
-pub skipped_more : (idx : List ℕ) (k i p : ℕ) → ((x : ℕ) → i ≤ x → x < p → k ≤ at idx x) → k ≤ at idx p → (x : ℕ) → i ≤ x → x < p + 1 → k ≤ at idx x
-skipped_more idx k i p f h x a b = ⊎_elim
-    (λ (l : x < p). f x a l)
-    (λ s. ⊎_elim (λ (e : x ≡ p). omega (arith, ap (at idx) e)) (λ (l : p < x). absurd (omega arith)) s)
-    (trichotomy x p)
-
 -- the walk has come to place p: no two rows below k up to there are related
 pub record Passed (R : ℕ → ℕ → Bool) (n : ℕ) (idx : List ℕ) (k p : ℕ) : Type 0 where
   pub inside : p ≤ n
@@ -67,13 +60,6 @@ module _ (R : ℕ → ℕ → Bool) (even : (a b : ℕ) → R a b ≡ true → R
             (λ (s : b < p). w.clear a b l (omega arith) m c d)
             (λ s. ⊎_elim (λ (e : b ≡ p). w.clear a b l (omega arith) m c d) (λ (g : p < b). absurd (omega (arith, x.skipped b (omega arith) (omega (arith, L.long))))) s)
             (trichotomy b p)
-
-  pub passed_start : (p : ℕ) → Next idx k 0 p → Passed R n idx k p
-  passed_start p x = record {
-    inside = omega (arith, x.inside, L.long);
-    low = λ h. x.low (omega (arith, L.long));
-    clear = λ a b l m h c d. absurd (omega (arith, x.skipped a (omega arith) (omega arith)));
-  }
 
   module _ (p q : ℕ) (w : Passed R n idx k p) (low : p < length idx) (x : Next idx k (p + 1) q) (far : q < length idx) where
     h : p < n

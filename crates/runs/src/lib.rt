@@ -12,7 +12,7 @@ use meaning::EdgeTable;
 
 // 01: "ancestral segments: a left, a right and an output row". Here the row is the parent row of a run.
 #[repr(C)]
-#[derive(Clone, Copy)]
+#[derive(Clone, Copy, Debug, PartialEq, Eq)]
 pub struct Segment {
     pub left: u32,
     pub right: u32,
@@ -20,7 +20,7 @@ pub struct Segment {
 }
 
 // 01: "A segment cut at a position inside it gives a front piece and a rest."
-#[derive(Drop)]
+#[derive(Clone, Copy, Debug, PartialEq, Eq)]
 pub struct Cut {
     pub front: Segment,
     pub rest: Segment,
@@ -32,16 +32,8 @@ impl Segment {
         ensures { result ≡ cut_at self x }
     {
         Cut {
-            front: Segment {
-                left: self.left,
-                right: x,
-                row: self.row,
-            },
-            rest: Segment {
-                left: x,
-                right: self.right,
-                row: self.row,
-            },
+            front: Segment { right: x, ..self },
+            rest: Segment { left: x, ..self },
         }
     }
 }
@@ -53,7 +45,7 @@ pub struct RunColumn {
 }
 
 impl RunColumn {
-    // The cell of a row that has no output parent: no table is so long.
+    // The cell of a row that has no output parent: no table is so long. A cell is a u32, since memory is fixed.
     pub const NONE: u32 = 4294967295;
 }
 
@@ -172,13 +164,12 @@ fn settle_row(
         return count;
     }
     let open = Segment {
-        left: left,
+        left,
         right: len,
         row: was,
     };
     let cut = open.cut(x);
-    let front = cut.front;
-    push(front, c, fl, fr, fp, fc, stood, count)
+    push(cut.front, c, fl, fr, fp, fc, stood, count)
 }
 
 // Deals with the change at x: the first nt rows of touched are those whose output parent may be another; their marks are taken away. The
@@ -225,14 +216,12 @@ pub fn settle(
         Bared (length up.now) touched.now nt listed.old listed.new }
 {
     let mut made = count;
-    let mut i = 0;
-    while i < nt {
+    for i in 0..nt {
         let c = touched[i];
         listed[c as usize] = 0;
         made = settle_row(
             x, len, c, up, open_left, open_par, fl, fr, fp, fc, stood, made,
         );
-        i += 1;
     }
     made
 }
@@ -279,7 +268,7 @@ fn close_row(
     let open = Segment {
         left: open_left[i],
         right: len,
-        row: row,
+        row,
     };
     push(open, c, fl, fr, fp, fc, stood, count)
 }
@@ -318,10 +307,10 @@ pub fn close(
         }) }
 {
     let mut made = count;
-    let mut c: u32 = 0;
-    while (c as usize) < open_par.len() {
-        made = close_row(len, c, open_left, open_par, fl, fr, fp, fc, stood, made);
-        c += 1;
+    for c in 0..open_par.len() {
+        made = close_row(
+            len, c as u32, open_left, open_par, fl, fr, fp, fc, stood, made,
+        );
     }
     made
 }

@@ -1,5 +1,5 @@
 -- The segments that three columns make, and back.
-use Rattle.std.specs.Prelude.{◌≡◌, List, map, true, false, ℕ, min, ◌+◌, ◌<◌, ◌≤◌, length, get_or}
+use Rattle.std.specs.Prelude.{◌≡◌, List, map, true, false, ℕ, min, ◌+◌, ◌<◌, ◌≤◌, length, get_or, Some, None}
 use Rattle.std.proofs.Common.{sym, ap, ◌∙◌, arith}
 use Rattle.std.proofs.lemmas.List.{length-map}
 use Rattle.std.proofs.Math.ListN.{get_or-map}
@@ -7,7 +7,7 @@ use Rattle.std.proofs.Math.Seq.{ext_get_or}
 use Rattle.meaning.specs.Words.{at, rows}
 use Rattle.laws.specs.Counting.{length_rows, get_rows}
 use Rattle.runs.specs.declared.Segment.{Segment}
-use Rattle.segments.specs.Search.{seg_at, no_segment, covers, row_at, Onward, onward_next, row_found}
+use Rattle.segments.specs.Search.{seg_at, no_segment, covers, row_at, first_row, Onward, onward_next, row_found, first_found, first_missing}
 
 -- the number of cells of the shortest of three columns
 abbrev pub shortest : List ℕ → List ℕ → List ℕ → ℕ
@@ -47,6 +47,12 @@ module _ (ls rs ws : List ℕ) where
 
     pub column_found : (i : ℕ) → i < shortest ls rs ws → Onward S x i → covers (at ls i) (at rs i) x ≡ true → at ws i ≡ row_at S x
     column_found i h s e = ap (λ (s : Segment). s.row) (sym (segment_at i h)) ∙ row_found S x i (inside i h) s (sym (test_is i h) ∙ e)
+
+    pub column_first : (i : ℕ) → i < shortest ls rs ws → Onward S x i → covers (at ls i) (at rs i) x ≡ true → Some (at ws i) ≡ first_row S x
+    column_first i h s e = ap (λ (s : Segment). Some s.row) (sym (segment_at i h)) ∙ first_found S x i (inside i h) s (sym (test_is i h) ∙ e)
+
+    pub column_none : (i : ℕ) → i ≤ shortest ls rs ws → shortest ls rs ws ≤ i → Onward S x i → None ≡ first_row S x
+    column_none i h k s = first_missing S x i (omega (arith, length_segments)) (omega (arith, length_segments)) s
 
 -- ---- the columns of a list of segments make that list again
 -- a segment of zeros, with which cells past the end are read

@@ -2,8 +2,8 @@
 
 #![tactic(auto)]
 
-ghost use Rattle.std.specs.Prelude.{◌≡◌, min};
-ghost use Rattle.segments.specs.Search.{covers, row_at};
+ghost use Rattle.std.specs.Prelude.{◌≡◌};
+ghost use Rattle.segments.specs.Search.{covers, first_row, row_at};
 ghost use Rattle.segments.specs.Columns.{segments_of};
 
 use meaning::MapTable;
@@ -13,56 +13,38 @@ use runs::Segment;
 pub fn holds(left: u32, right: u32, x: u32) -> bool
     ensures { result ≡ covers left right x }
 {
-    if left <= x {
-        return x < right;
-    }
-    false
-}
-
-// The smaller of two numbers.
-fn least(a: usize, b: usize) -> usize
-    ensures { result ≡ min a b }
-{
-    if a <= b {
-        return a;
-    }
-    b
+    left <= x && x < right
 }
 
 // The output row of the first segment that holds x, of the segments that three columns make; their number is that of the shortest column.
-pub fn find_in_columns(left: &[u32], right: &[u32], row: &[u32], x: u32) -> u32
-    ensures { result ≡ row_at (segments_of left.now right.now row.now) x }
+pub fn find_in_columns(left: &[u32], right: &[u32], row: &[u32], x: u32) -> Option<u32>
+    ensures { result ≡ first_row (segments_of left.now right.now row.now) x }
 {
-    let n = least(left.len(), least(right.len(), row.len()));
-    let mut i = 0;
-    while i < n {
+    let n = left.len().min(right.len()).min(row.len());
+    for i in 0..n {
         if holds(left[i], right[i], x) {
-            return row[i];
+            return Some(row[i]);
         }
-        i += 1;
     }
-    MapTable::NONE
+    None
 }
 
 // The same of a lent slice of segments.
-pub fn find(s: &[Segment], x: u32) -> u32
-    ensures { result ≡ row_at s.now x }
+pub fn find(s: &[Segment], x: u32) -> Option<u32>
+    ensures { result ≡ first_row s.now x }
 {
-    let mut i = 0;
-    while i < s.len() {
-        let seg = s[i];
+    for seg in s {
         if holds(seg.left, seg.right, x) {
-            return seg.row;
+            return Some(seg.row);
         }
-        i += 1;
     }
-    MapTable::NONE
+    None
 }
 
-// The same, called from C with a pointer to the segments and their number.
+// The same, called from C with a pointer to the segments and their number: a row that means none where no segment holds x.
 #[unsafe(no_mangle)]
 pub extern "C" fn ffr_find_segment(s: &[Segment], x: u32) -> u32
     ensures { result ≡ row_at s.now x }
 {
-    find(s, x)
+    find(s, x).unwrap_or(MapTable::NONE)
 }

@@ -4,26 +4,23 @@
 #![tactic(auto)]
 
 ghost use Rattle.std.specs.Prelude.{◌≡◌};
-ghost use Rattle.segments.specs.Search.{row_at};
+ghost use Rattle.segments.specs.Search.{first_row};
 
-use meaning::MapTable;
 use runs::Segment;
 use std::io;
 
 // Lends the segments as a slice.
-fn by_slice(a: [Segment; 3], x: u32) -> u32
-    ensures { result ≡ row_at a x }
+fn by_slice(a: [Segment; 3], x: u32) -> Option<u32>
+    ensures { result ≡ first_row a x }
 {
     segments::find(&a, x)
 }
 
 // Lends the segments as columns.
-fn by_columns(a: [Segment; 3], x: u32) -> u32
-    ensures { result ≡ row_at a x }
+fn by_columns(a: [Segment; 3], x: u32) -> Option<u32>
+    ensures { result ≡ first_row a x }
 {
-    let s = a[0];
-    let t = a[1];
-    let u = a[2];
+    let [s, t, u] = a;
     let left = [s.left, t.left, u.left];
     let right = [s.right, t.right, u.right];
     let row = [s.row, t.row, u.row];
@@ -31,11 +28,11 @@ fn by_columns(a: [Segment; 3], x: u32) -> u32
 }
 
 // Prints an output row after a space.
-fn print_row(rt: &impl Print, row: u32) -> io::Result<()> {
-    if row == MapTable::NONE {
-        return print!(rt; " -");
+fn print_row(rt: &impl Print, row: Option<u32>) -> io::Result<()> {
+    match row {
+        None => print!(rt; " -"),
+        Some(row) => print!(rt; " {row}"),
     }
-    print!(rt; " {row}")
 }
 
 // Prints the line of one position.
@@ -48,10 +45,8 @@ fn print_line(rt: &impl Print, birth: u64, x: u32, a: [Segment; 3]) -> io::Resul
 
 // Prints the lines of one input row.
 fn print_lines(rt: &impl Print, birth: u64, a: [Segment; 3]) -> io::Result<()> {
-    let mut x: u32 = 0;
-    while x <= 10 {
+    for x in 0..11 {
         print_line(rt, birth, x, a)?;
-        x += 1;
     }
     Ok(())
 }

@@ -11,7 +11,7 @@ ghost use Rattle.listing.specs.Written.{Printed, room};
 ghost use Rattle.meaning.specs.Shown.{Long, front, clean_shown, shown, answered};
 
 use meaning::{Counts, Refusal, Told};
-use stored::{ReadAnswer, Rows};
+use stored::Rows;
 
 // The line that a refusal prints.
 fn refused(x: Refusal, out: &mut [u8]) -> usize
@@ -269,8 +269,8 @@ pub fn show(bytes: &[u8], out: &mut [u8]) -> usize
         &mut samples,
     );
     match answer {
-        ReadAnswer::Done { len, rows } => clean_rows(
-            len,
+        Ok(contents) => clean_rows(
+            contents.len,
             &time,
             &birth,
             &population,
@@ -284,10 +284,10 @@ pub fn show(bytes: &[u8], out: &mut [u8]) -> usize
             &node,
             &derived,
             &samples,
-            rows,
+            contents.rows,
             out,
         ),
-        ReadAnswer::Refused(x) => refused(x, out),
+        Err(x) => refused(x, out),
     }
 }
 

@@ -1,34 +1,31 @@
 -- Laws for what the two calls return: an answer and the cells it leaves, as one outcome.
 use mathlib.Core.Path.{◌≡◌, refl, sym, ap, ap₂, subst, ◌∙◌}
-use mathlib.Core.Bool.{Bool, true, false}
-use mathlib.Core.List.{List, [], ◌∷◌}
-use Prim.Native.Nat.{ℕ, zero, suc, ◌+◌, ◌*◌, ◌<◌, ◌≤◌}
+use mathlib.Core.Bool.{false}
+use mathlib.Core.List.{List, ◌++◌}
+use Prim.Native.Nat.{ℕ, ◌+◌, ◌*◌, ◌<◌, ◌≤◌}
 use native.Mathlib.Omega.{arith}
-use lib.ListN.{length}
-use Rattle.meaning.specs.Words.{at, rows, rows_from, zeros}
+use lib.ListN.{length, drop}
+use Rattle.std.specs.Prelude.{replicate}
+use Rattle.std.proofs.lemmas.List.{length-replicate}
+use Rattle.std.specs.Prelude.{Option, Some, None, Result, Ok, Err}
+use Rattle.meaning.specs.Words.{rows, zeros}
 use Rattle.meaning.specs.Rows.{Tables}
-use Rattle.meaning.specs.Answer.{Answer, answer, done, stored_limits, accepted, refusal_of, put, left_by}
+use Rattle.meaning.specs.Answer.{Answer, done, stored_limits, accepted, refusal_of, put, left_by}
 use Rattle.meaning.specs.Lent.{counts_by, cells_by}
 use Rattle.meaning.specs.declared.Refusal.{Refusal}
 use Rattle.meaning.specs.declared.Refusal.TheVariants.{Ragged, TooMany, Length, BirthRepeated, EdgeBroken, EdgeOrder, EdgeShared, SiteBroken, MutationBroken, MutationAbove, SampleUnknown, SampleRepeated, NoRoom, BatchRagged, BatchTooMany, BatchBirth, BatchEdge, BatchShared, BatchMutation, BatchAbove, MarkWrong, BytesEnd, BytesFollow, RowsOver, EdgeWide, MutationWide, Populated, NoSite, NoBirth}
 use Rattle.laws.specs.Counting.{length_rows}
-use Rattle.meaning.specs.Stored.{Kind, number, whole, form, form_then, kinds, SA, ND, ED, Si, MU, size, total, rows_at, after, columns, tables_from}
-use Rattle.meaning.specs.Files.{Reading, if_done, handed, room_answer, reading, tables_in, samples_in, found, nodes_from, edges_from, sites_from, muts_from}
-use Rattle.stored.specs.Admitted.{Within}
+use Rattle.meaning.specs.Stored.{Kind, number, whole, form, form_then, kinds, SA, ND, ED, Si, size, total, rows_at, after, columns, tables_from}
+use Rattle.meaning.specs.Files.{if_done, handed, room_answer, reading, tables_in, samples_in, found, nodes_from, edges_from, sites_from, muts_from}
 use Rattle.stored.specs.RoundTrip.{found_within}
 use Rattle.form.specs.Posts.{Stretched, Found, Scanned, Records}
 use Rattle.stored.specs.Answers.{Counted, Roomed, Ample, Lacking, read_of}
 use Rattle.form.specs.Marks.{whole_marked, whole_within}
 use Rattle.form.specs.declared.Stretch.{Stretch}
 use Rattle.form.specs.declared.Layout.{Layout}
-use Rattle.form.specs.declared.Scan.{Scan}
-use Rattle.form.specs.declared.Scan.TheVariants as scan
-use Rattle.stored.specs.declared.Fault.{Fault}
-use Rattle.stored.specs.declared.Fault.TheVariants as fault
 use Rattle.stored.specs.declared.Rows.{Rows}
-use Rattle.stored.specs.declared.ReadAnswer.{ReadAnswer}
-use Rattle.stored.specs.declared.ReadAnswer.TheVariants as read
-use Rattle.stored.proofs.Rooming.{room_lacks, none_lacks, room_one, room_two, room_three, room_four}
+use Rattle.stored.specs.declared.Contents.{Contents}
+use Rattle.stored.proofs.Rooming.{shortest, roomed, room_lacks, none_lacks, room_one, room_two, room_three, room_four}
 
 -- a refusal is not done
 pub refusal_not_done : (x : Refusal) → accepted (refusal_of x) ≡ false
@@ -64,20 +61,20 @@ refusal_not_done NoSite = refl
 refusal_not_done NoBirth = refl
 
 -- a refusal leaves everything as it was
-handed_refused : (x : Refusal) (a : Answer) (L : ℕ) (T : Tables) (S : List ℕ) (out : Tables) (list_out : List ℕ) → a ≡ refusal_of x → read_of (read.Refused x) out list_out ≡ handed a L T S out list_out
+handed_refused : (x : Refusal) (a : Answer) (L : ℕ) (T : Tables) (S : List ℕ) (out : Tables) (list_out : List ℕ) → a ≡ refusal_of x → read_of (Err x) out list_out ≡ handed a L T S out list_out
 unfolding handed if_done counts_by cells_by left_by
 handed_refused x a L T S out list_out e = rw e (rw (refusal_not_done x, if_done, counts_by, cells_by, left_by))
 
 -- the outcome of reading, by its answer
-by_answer : (s : List ℕ) (out : Tables) (list_out : List ℕ) (x : Refusal) → form_then (form 2 stored_limits) s (room_answer stored_limits (tables_in (found 2 stored_limits s)) (samples_in (found 2 stored_limits s)) out list_out) ≡ refusal_of x → read_of (read.Refused x) out list_out ≡ reading 2 stored_limits s out list_out
+by_answer : (s : List ℕ) (out : Tables) (list_out : List ℕ) (x : Refusal) → form_then (form 2 stored_limits) s (room_answer stored_limits (tables_in (found 2 stored_limits s)) (samples_in (found 2 stored_limits s)) out list_out) ≡ refusal_of x → read_of (Err x) out list_out ≡ reading 2 stored_limits s out list_out
 unfolding reading
 by_answer s out list_out x e = handed_refused x (form_then (form 2 stored_limits) s (room_answer stored_limits (tables_in (found 2 stored_limits s)) (samples_in (found 2 stored_limits s)) out list_out)) (number 4 s 2) (tables_in (found 2 stored_limits s)) (samples_in (found 2 stored_limits s)) out list_out e
 
 -- a file that is refused
-pub read_refused : (s : List ℕ) (r : Scan) (x : Refusal) (out : Tables) (list_out : List ℕ) → Scanned s r → r ≡ scan.Refused x → read_of (read.Refused x) out list_out ≡ reading 2 stored_limits s out list_out
+pub read_refused : (s : List ℕ) (r : Result Layout Refusal) (x : Refusal) (out : Tables) (list_out : List ℕ) → Scanned s r → r ≡ Err x → read_of (Err x) out list_out ≡ reading 2 stored_limits s out list_out
 unfolding Scanned
 read_refused s r x out list_out g e =
-    let h : Scanned s (scan.Refused x) = subst (Scanned s) e g in
+    let h : Scanned s (Err x) = subst (Scanned s) e g in
     by_answer s out list_out x (h (room_answer stored_limits (tables_in (found 2 stored_limits s)) (samples_in (found 2 stored_limits s)) out list_out))
 
 -- a file whose rows are found
@@ -86,9 +83,9 @@ pub record Whole (s : List ℕ) (l : Layout) : Type 0 where
   pub first : 6 ≤ length s
   pub passes : (rest : Answer) → form_then (form 2 stored_limits) s rest ≡ rest
 
-pub file_whole : (s : List ℕ) (r : Scan) (l : Layout) → Scanned s r → r ≡ scan.Found l → Whole s l
+pub file_whole : (s : List ℕ) (r : Result Layout Refusal) (l : Layout) → Scanned s r → r ≡ Ok l → Whole s l
 unfolding Scanned
-file_whole s r l g e = let h : Scanned s (scan.Found l) = subst (Scanned s) e g in record { rows = h.0; first = h.1; passes = h.2 }
+file_whole s r l g e = let h : Scanned s (Ok l) = subst (Scanned s) e g in record { rows = h.0; first = h.1; passes = h.2 }
 
 -- ---- what was found
 
@@ -126,15 +123,10 @@ pub record Ready (s : List ℕ) (l : Layout) (out : Tables) (list_out : List ℕ
   pub muts : Records 7 s l.mutations.start l.mutations.count × (l.mutations.count ≤ length out.muts.site) × (l.mutations.count ≤ length out.muts.node) × (l.mutations.count ≤ length out.muts.derived)
   pub samples : Records 6 s l.samples.start l.samples.count × (l.samples.count ≤ length list_out)
 
--- a column filled with 0
-zeros_from : (i n : ℕ) → rows_from (λ (k : ℕ). 0) i n ≡ zeros n
-unfolding rows_from zeros
-zeros_from i zero = refl
-zeros_from i (suc n) = ap (λ (l : List ℕ). 0 ∷ l) (zeros_from (suc i) n)
-
-pub rows_zeros : (n : ℕ) → rows (λ (k : ℕ). 0) n ≡ zeros n
-unfolding rows
-rows_zeros n = zeros_from 0 n
+-- a column whose first cells are filled with 0
+pub put_zeros : (n : ℕ) (old : List ℕ) {new : List ℕ} → new ≡ replicate n 0 → new ++ drop n old ≡ put (zeros n) old
+unfolding put zeros
+put_zeros n old e = ap₂ (λ (l : List ℕ) (k : ℕ). l ++ drop k old) e (sym (length-replicate n 0))
 
 -- what the filling of each table leaves
 pub record Took (s : List ℕ) (l : Layout) (out : Tables) (list_out : List ℕ) (T : Tables) (S : List ℕ) : Type 0 where
@@ -157,7 +149,7 @@ moved : (F : ℕ → ℕ → ℕ) {a b z most : ℕ} {s : List ℕ} {o : ℕ} {w
 moved F f old = ap₂ (λ (j n : ℕ). put (rows (F j) n) old) f.starts f.counts
 
 -- what was taken is what the definitions hand over
-handed_over : (s : List ℕ) (l : Layout) (out : Tables) (list_out : List ℕ) (T : Tables) (S : List ℕ) (L : ℕ) → Found s l → Took s l out list_out T S → L ≡ number 4 s 2 → read_of (read.Done L (rows_of l)) T S ≡ handed done (number 4 s 2) (tables_in (found 2 stored_limits s)) (samples_in (found 2 stored_limits s)) out list_out
+handed_over : (s : List ℕ) (l : Layout) (out : Tables) (list_out : List ℕ) (T : Tables) (S : List ℕ) (L : ℕ) → Found s l → Took s l out list_out T S → L ≡ number 4 s 2 → read_of (Ok (record { len = L; rows = (rows_of l) })) T S ≡ handed done (number 4 s 2) (tables_in (found 2 stored_limits s)) (samples_in (found 2 stored_limits s)) out list_out
 unfolding handed if_done counts_by cells_by left_by tables_in samples_in found form kinds tables_from columns rows_at size total
 handed_over s l out list_out T S L f t q =
     let c : Counted (rows_of l) (tables_in (found 2 stored_limits s)) (samples_in (found 2 stored_limits s)) = found_counted s l f in
@@ -188,12 +180,12 @@ handed_over s l out list_out T S L f t q =
       samples = samples i;
     }
 
-module _ (s : List ℕ) (l : Layout) (f : Whole s l) (n r : Rows) (e : n ≡ rows_of l) (out : Tables) (list_out : List ℕ) (q : Roomed r out list_out) (x : Fault) (g : Lacking n r x) where
-  ample : x ≡ fault.Nothing → Ample (rows_of l) r
+module _ (s : List ℕ) (l : Layout) (f : Whole s l) (n r : Rows) (e : n ≡ rows_of l) (out : Tables) (list_out : List ℕ) (q : Roomed r out list_out) (x : Option ℕ) (g : Lacking n r x) where
+  ample : x ≡ None → Ample (rows_of l) r
   unfolding Lacking
   ample h = subst (λ m. Ample m r) e (subst (Lacking n r) h g)
 
-  pub ready : x ≡ fault.Nothing → Ready s l out list_out
+  pub ready : x ≡ None → Ready s l out list_out
   ready h =
       let a : Ample (rows_of l) r = ample h in
       let o1 : nodes_from stored_limits s ≤ length s = after_within (SA stored_limits) s 6 f.first in
@@ -214,7 +206,7 @@ module _ (s : List ℕ) (l : Layout) (f : Whole s l) (n r : Rows) (e : n ≡ row
       }
 
   -- a file that doesn't fit
-  pub read_lacks : (t : ℕ) → x ≡ fault.Table t → read_of (read.Refused (NoRoom t)) out list_out ≡ reading 2 stored_limits s out list_out
+  pub read_lacks : (t : ℕ) → x ≡ Some t → read_of (Err (NoRoom t)) out list_out ≡ reading 2 stored_limits s out list_out
   unfolding Lacking
   read_lacks t h =
       let T : Tables = tables_in (found 2 stored_limits s) in
@@ -223,12 +215,29 @@ module _ (s : List ℕ) (l : Layout) (f : Whole s l) (n r : Rows) (e : n ≡ row
       by_answer s out list_out (NoRoom t) (f.passes (room_answer stored_limits T S out list_out) ∙ room_lacks n r T out S list_out c (found_within 2 stored_limits s) q t (subst (Lacking n r) h g))
 
   -- a file that is read
-  pub read_done : x ≡ fault.Nothing → (T : Tables) (S : List ℕ) (L : ℕ) → Took s l out list_out T S → L ≡ number 4 s 2 → read_of (read.Done L n) T S ≡ reading 2 stored_limits s out list_out
+  pub read_done : x ≡ None → (T : Tables) (S : List ℕ) (L : ℕ) → Took s l out list_out T S → L ≡ number 4 s 2 → read_of (Ok (record { len = L; rows = n })) T S ≡ reading 2 stored_limits s out list_out
   unfolding reading
   read_done h T S L t k =
       let T' : Tables = tables_in (found 2 stored_limits s) in
       let S' : List ℕ = samples_in (found 2 stored_limits s) in
       let d : room_answer stored_limits T' S' out list_out ≡ done = none_lacks (rows_of l) r T' out S' list_out (found_counted s l f.rows) (found_within 2 stored_limits s) q (ample h) in
-      ap (λ m. read_of (read.Done L m) T S) e
+      ap (λ m. read_of (Ok (record { len = L; rows = m })) T S) e
       ∙ handed_over s l out list_out T S L f.rows t k
       ∙ ap (λ a. handed a (number 4 s 2) T' S' out list_out) (sym (f.passes (room_answer stored_limits T' S' out list_out) ∙ d))
+
+-- ---- as the code has it
+
+module _ (s : List ℕ) (out : Tables) (list_out : List ℕ) {k : Result Layout Refusal} (g : Scanned s k) where
+  -- a refusal of the first pass, handed on
+  pub read_stops : {r : Result Contents Refusal} (x : Refusal) → k ≡ Err x → r ≡ Err x → read_of r out list_out ≡ reading 2 stored_limits s out list_out
+  read_stops x e f = ap (λ (a : Result Contents Refusal). read_of a out list_out) f ∙ read_refused s k x out list_out g e
+
+  module _ (l : Layout) (v : k ≡ Ok l) {n r : Rows} (e : n ≡ rows_of l) (q : r ≡ shortest out list_out) {x : Option ℕ} (h : Lacking n r x) where
+    pub read_ready : x ≡ None → Ready s l out list_out
+    read_ready = ready s l (file_whole s k l g v) n r e out list_out (roomed r out list_out q) x h
+
+    pub read_short : (t : ℕ) → x ≡ Some t → read_of (Err (NoRoom t)) out list_out ≡ reading 2 stored_limits s out list_out
+    read_short = read_lacks s l (file_whole s k l g v) n r e out list_out (roomed r out list_out q) x h
+
+    pub read_whole : x ≡ None → (T : Tables) (S : List ℕ) (L : ℕ) → Took s l out list_out T S → L ≡ number 4 s 2 → read_of (Ok (record { len = L; rows = n })) T S ≡ reading 2 stored_limits s out list_out
+    read_whole = read_done s l (file_whole s k l g v) n r e out list_out (roomed r out list_out q) x h

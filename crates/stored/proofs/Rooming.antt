@@ -1,21 +1,39 @@
 -- Laws for the test of room: the lowest table that lacks it is the answer.
-use mathlib.Core.Path.{◌≡◌, refl, sym, ap, ◌∙◌}
-use mathlib.Core.Bool.{Bool, true, false}
+use mathlib.Core.Path.{◌≡◌, sym, ap, ◌∙◌}
+use mathlib.Core.Bool.{true, false}
 use mathlib.Core.List.{List, [], ◌∷◌}
 use Prim.Native.Nat.{ℕ, min, ◌<◌, ◌≤◌}
 use native.Mathlib.Omega.{arith}
 use borrow.Author.Tests.{lt-ltb, le-ltb}
-use lib.Dec.{ltb}
 use lib.ListN.{length}
-use Rattle.meaning.specs.Words.{or}
 use Rattle.meaning.specs.Rows.{Tables}
-use Rattle.meaning.specs.Answer.{Answer, answer, done, stored_limits, lacks, room}
+use Rattle.meaning.specs.Answer.{answer, done, stored_limits, lacks, room}
 use Rattle.meaning.specs.Lent.{fit_then}
 use Rattle.meaning.specs.Files.{room_answer}
 use Rattle.form.specs.Refusals.{refuse_no, refuse_yes}
 use Rattle.stored.specs.Admitted.{Within}
 use Rattle.stored.specs.Answers.{Counted, Roomed, Ample, Lowest, at_nodes, at_edges, at_sites, at_muts, at_samples}
 use Rattle.stored.specs.declared.Rows.{Rows}
+
+-- how many rows there is room for: the shortest column of each table
+abbrev pub shortest : Tables → List ℕ → Rows
+shortest out list_out = record {
+  nodes = min (length out.nodes.time) (min (length out.nodes.birth) (length out.nodes.population));
+  edges = min (length out.edges.left) (min (length out.edges.right) (min (length out.edges.parent) (length out.edges.child)));
+  sites = min (length out.sites.position) (length out.sites.ancestral);
+  mutations = min (length out.muts.site) (min (length out.muts.node) (length out.muts.derived));
+  samples = length list_out;
+}
+
+pub roomed : (r : Rows) (out : Tables) (list_out : List ℕ) → r ≡ shortest out list_out → Roomed r out list_out
+unfolding room
+roomed r out list_out e = record {
+  nodes = sym (ap (λ (m : Rows). m.nodes) e);
+  edges = sym (ap (λ (m : Rows). m.edges) e);
+  sites = sym (ap (λ (m : Rows). m.sites) e);
+  muts = sym (ap (λ (m : Rows). m.mutations) e);
+  samples = sym (ap (λ (m : Rows). m.samples) e);
+}
 
 lacks_no : (most : ℕ) (cols : List (List ℕ)) (need : ℕ) → need ≤ most → need ≤ room cols → lacks most cols need ≡ false
 unfolding lacks

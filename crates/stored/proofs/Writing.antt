@@ -1,39 +1,38 @@
 -- Laws for what writing returns: each refusal leaves the bytes as they were, and the pieces laid one after the other are the file.
 use mathlib.Core.Path.{◌≡◌, refl, sym, ap, ap₂, subst, ◌∙◌}
-use mathlib.Core.Bool.{Bool, true, false}
+use mathlib.Core.Bool.{Bool, false}
 use mathlib.Core.List.{List, [], ◌∷◌, ◌++◌, append_assoc}
 use Prim.Native.Nat.{ℕ, ◌+◌, ◌*◌, ◌<◌, ◌≤◌}
 use native.Mathlib.Omega.{arith}
 use borrow.Author.Tests.{lt-ltb, le-ltb}
-use lib.Dec.{ltb}
 use lib.ListN.{length, length-append}
 use Rattle.meaning.specs.Words.{lowest}
 use Rattle.meaning.specs.Rows.{Tables}
-use Rattle.meaning.specs.Answer.{Answer, answer, done, stored_limits, refuse, refuse_row, accepted, refusal_of, put, left_by}
-use Rattle.meaning.specs.Check.{shapes, sizes, too_many}
+use Rattle.meaning.specs.Answer.{Answer, answer, done, stored_limits, refuse_row, refusal_of, put, left_by}
 use Rattle.meaning.specs.declared.Refusal.{Refusal}
 use Rattle.meaning.specs.declared.Refusal.TheVariants.{Ragged, TooMany, NoRoom, EdgeWide, MutationWide, Populated}
 use Rattle.laws.specs.Counting.{none_passes}
 use Rattle.meaning.specs.Stored.{SA, ND, ED, Si, MU, kinds, form, size, total, bytes_of, records_from, height, kinds_bytes, form_bytes}
-use Rattle.meaning.specs.Files.{Writing, if_done, filed, too_wide, populated, written, write_answer, laid, writing}
+use Rattle.meaning.specs.Files.{if_done, filed, too_wide, populated, written, write_answer, laid, writing}
 use Rattle.form.specs.Numbers.{length_bytes}
 use Rattle.form.specs.Refusals.{even_head, shape_even, refuse_no, refuse_yes, row_no}
 use Rattle.stored.specs.Admitted.{Shaped, Within, Narrow, shapes_pass, write_sized, write_passes}
 use Rattle.form.specs.Posts.{lay}
 use Rattle.stored.specs.Answers.{Long, Counted, Ample, Lowest, Lacking, Uneven, most_rows, written_of}
 use Rattle.stored.specs.declared.Lengths.{Lengths}
+use Rattle.meaning.specs.declared.columns.Lent.{Lent}
+use Rattle.meaning.specs.Columns.{lent_in}
+use Rattle.meaning.specs.Words.{lowest_row}
+use Rattle.laws.specs.Counting.{lowest_row-some, lowest_row-none}
 use Rattle.stored.specs.declared.Rows.{Rows}
-use Rattle.stored.specs.declared.Fault.{Fault}
-use Rattle.stored.specs.declared.Fault.TheVariants as fault
-use Rattle.stored.specs.declared.WriteAnswer.{WriteAnswer}
-use Rattle.stored.specs.declared.WriteAnswer.TheVariants as write
+use Rattle.std.specs.Prelude.{Option, Some, None, Ok, Err}
 use Rattle.stored.proofs.Returning.{refusal_not_done}
 use Rattle.form.proofs.Laying.{lay_chain, lay_front, length_records}
 use Rattle.stored.proofs.Admitting.{sizes_over, all_within}
 
 -- ---- a refusal leaves everything as it was
 
-laid_refused : (x : Refusal) (a : Answer) (new out : List ℕ) → a ≡ refusal_of x → written_of (write.Refused x) out ≡ laid a new out
+laid_refused : (x : Refusal) (a : Answer) (new out : List ℕ) → a ≡ refusal_of x → written_of (Err x) out ≡ laid a new out
 unfolding laid if_done left_by
 laid_refused x a new out e = rw e (rw (refusal_not_done x, if_done, left_by))
 
@@ -42,30 +41,30 @@ unfolding refuse_row
 row_yes n m broken rest h = refuse_yes n (lowest broken m) rest (lt-ltb (lowest broken m) m h)
 
 module _ (L : ℕ) (T : Tables) (S out : List ℕ) where
-  by_answer : (x : Refusal) → write_answer 2 stored_limits L T S (length out) ≡ refusal_of x → written_of (write.Refused x) out ≡ writing 2 stored_limits L T S out
+  by_answer : (x : Refusal) → write_answer 2 stored_limits L T S (length out) ≡ refusal_of x → written_of (Err x) out ≡ writing 2 stored_limits L T S out
   unfolding writing
   by_answer x e = laid_refused x (write_answer 2 stored_limits L T S (length out)) (written 2 stored_limits L T S) out e
 
-  pub write_ragged : (n : Lengths) → Long n T → (r : Fault) → Uneven n r → (t : ℕ) → r ≡ fault.Table t → written_of (write.Refused (Ragged t)) out ≡ writing 2 stored_limits L T S out
+  pub write_ragged : (n : Lengths) → Long n T → (r : Option ℕ) → Uneven n r → (t : ℕ) → r ≡ Some t → written_of (Err (Ragged t)) out ≡ writing 2 stored_limits L T S out
   unfolding Uneven write_answer
   write_ragged n l r u t e = by_answer (Ragged t) (subst (Uneven n) e u T _ l)
 
-  pub write_shaped : (n : Lengths) → Long n T → (r : Fault) → Uneven n r → r ≡ fault.Nothing → Shaped T
+  pub write_shaped : (n : Lengths) → Long n T → (r : Option ℕ) → Uneven n r → r ≡ None → Shaped T
   unfolding Uneven
   write_shaped n l r u e = subst (Uneven n) e u T l
 
-  pub write_over : Shaped T → (n : Rows) → Counted n T S → (most : Rows) → most ≡ most_rows → (r : Fault) → Lacking n most r → (t : ℕ) → r ≡ fault.Table t → written_of (write.Refused (TooMany t)) out ≡ writing 2 stored_limits L T S out
+  pub write_over : Shaped T → (n : Rows) → Counted n T S → (most : Rows) → most ≡ most_rows → (r : Option ℕ) → Lacking n most r → (t : ℕ) → r ≡ Some t → written_of (Err (TooMany t)) out ≡ writing 2 stored_limits L T S out
   unfolding Lacking write_answer
   write_over s n c most q r u t e =
       let h : Lowest n most_rows t = subst (λ m. Lowest n m t) q (subst (Lacking n most) e u) in
       by_answer (TooMany t) (shapes_pass T _ s ∙ sizes_over n T S c _ t h)
 
-  pub write_ample : (n most : Rows) → most ≡ most_rows → (r : Fault) → Lacking n most r → r ≡ fault.Nothing → Ample n most_rows
+  pub write_ample : (n most : Rows) → most ≡ most_rows → (r : Option ℕ) → Lacking n most r → r ≡ None → Ample n most_rows
   unfolding Lacking
   write_ample n most q r u e = subst (λ m. Ample n m) q (subst (Lacking n most) e u)
 
   module _ (s : Shaped T) (w : Within stored_limits T S) where
-    pub write_edge : (m e : ℕ) → m ≡ length T.edges.left → e ≡ lowest (too_wide 2 T.edges.parent T.edges.child) m → e < m → written_of (write.Refused (EdgeWide e)) out ≡ writing 2 stored_limits L T S out
+    pub write_edge : (m e : ℕ) → m ≡ length T.edges.left → e ≡ lowest (too_wide 2 T.edges.parent T.edges.child) m → e < m → written_of (Err (EdgeWide e)) out ≡ writing 2 stored_limits L T S out
     write_edge m e q p h =
         let g : e ≡ lowest (too_wide 2 T.edges.parent T.edges.child) (length T.edges.left) = p ∙ ap (lowest (too_wide 2 T.edges.parent T.edges.child)) q in
         by_answer (EdgeWide e) (write_sized 2 stored_limits L T S (length out) s w ∙ row_yes 35 (length T.edges.left) (too_wide 2 T.edges.parent T.edges.child) _ (omega arith) ∙ ap (answer 35) (sym g))
@@ -76,14 +75,14 @@ module _ (L : ℕ) (T : Tables) (S out : List ℕ) where
     pub muts_narrow : (e : ℕ) → e ≡ lowest (too_wide 2 T.muts.site T.muts.node) (length T.muts.site) → length T.muts.site ≤ e → (i : ℕ) → i < length T.muts.site → too_wide 2 T.muts.site T.muts.node i ≡ false
     muts_narrow e p h i l = none_passes (too_wide 2 T.muts.site T.muts.node) (length T.muts.site) i (omega arith) l
 
-    pub write_mutation : ((i : ℕ) → i < length T.edges.left → too_wide 2 T.edges.parent T.edges.child i ≡ false) → (e : ℕ) → e ≡ lowest (too_wide 2 T.muts.site T.muts.node) (length T.muts.site) → e < length T.muts.site → written_of (write.Refused (MutationWide e)) out ≡ writing 2 stored_limits L T S out
+    pub write_mutation : ((i : ℕ) → i < length T.edges.left → too_wide 2 T.edges.parent T.edges.child i ≡ false) → (e : ℕ) → e ≡ lowest (too_wide 2 T.muts.site T.muts.node) (length T.muts.site) → e < length T.muts.site → written_of (Err (MutationWide e)) out ≡ writing 2 stored_limits L T S out
     write_mutation n e p h =
         by_answer (MutationWide e) (write_sized 2 stored_limits L T S (length out) s w ∙ row_no 35 (length T.edges.left) (too_wide 2 T.edges.parent T.edges.child) _ n ∙ row_yes 36 (length T.muts.site) (too_wide 2 T.muts.site T.muts.node) _ (omega arith) ∙ ap (answer 36) (sym p))
 
     pub nodes_settled : (m e : ℕ) → m ≡ length T.nodes.time → e ≡ lowest (populated T.nodes.population) m → m ≤ e → (i : ℕ) → i < length T.nodes.time → populated T.nodes.population i ≡ false
     nodes_settled m e q p h i l = none_passes (populated T.nodes.population) m i (omega arith) (omega arith)
 
-    pub write_populated : ((i : ℕ) → i < length T.edges.left → too_wide 2 T.edges.parent T.edges.child i ≡ false) → ((i : ℕ) → i < length T.muts.site → too_wide 2 T.muts.site T.muts.node i ≡ false) → (m e : ℕ) → m ≡ length T.nodes.time → e ≡ lowest (populated T.nodes.population) m → e < m → written_of (write.Refused (Populated e)) out ≡ writing 2 stored_limits L T S out
+    pub write_populated : ((i : ℕ) → i < length T.edges.left → too_wide 2 T.edges.parent T.edges.child i ≡ false) → ((i : ℕ) → i < length T.muts.site → too_wide 2 T.muts.site T.muts.node i ≡ false) → (m e : ℕ) → m ≡ length T.nodes.time → e ≡ lowest (populated T.nodes.population) m → e < m → written_of (Err (Populated e)) out ≡ writing 2 stored_limits L T S out
     write_populated n k m e q p h =
         let g : e ≡ lowest (populated T.nodes.population) (length T.nodes.time) = p ∙ ap (lowest (populated T.nodes.population)) q in
         by_answer (Populated e) (write_sized 2 stored_limits L T S (length out) s w ∙ row_no 35 (length T.edges.left) (too_wide 2 T.edges.parent T.edges.child) _ n ∙ row_no 36 (length T.muts.site) (too_wide 2 T.muts.site T.muts.node) _ k ∙ row_yes 38 (length T.nodes.time) (populated T.nodes.population) _ (omega arith) ∙ ap (answer 38) (sym g))
@@ -159,7 +158,7 @@ module _ (L : ℕ) (T : Tables) (S : List ℕ) where
   length_written = sym (ap length pieces) ∙ omega (arith, length-append (((((hd ++ sa) ++ nd) ++ ed) ++ si) ++ mu) en, length_5)
 
   module _ (out : List ℕ) (s : Shaped T) (w : Within stored_limits T S) (n : Narrow 2 T) where
-    pub write_full : length out < 8 + length S * 6 + length T.nodes.time * 10 + length T.edges.left * 14 + length T.sites.position * 7 + length T.muts.site * 7 → written_of (write.Refused (NoRoom 7)) out ≡ writing 2 stored_limits L T S out
+    pub write_full : length out < 8 + length S * 6 + length T.nodes.time * 10 + length T.edges.left * 14 + length T.sites.position * 7 + length T.muts.site * 7 → written_of (Err (NoRoom 7)) out ≡ writing 2 stored_limits L T S out
     write_full h = by_answer L T S out (NoRoom 7) (write_passes 2 stored_limits L T S (length out) s w n ∙ refuse_yes 13 7 done (lt-ltb (length out) (length (written 2 stored_limits L T S)) (omega (arith, length_written))))
 
     -- the pieces laid one after the other
@@ -173,7 +172,7 @@ module _ (L : ℕ) (T : Tables) (S : List ℕ) where
       pub end : o7 ≡ lay e en o6
 
     -- the file, and no more
-    pub write_done : {o1 o2 o3 o4 o5 o6 o7 : List ℕ} {a b c d e : ℕ} (count : ℕ) → count ≡ 8 + length S * 6 + length T.nodes.time * 10 + length T.edges.left * 14 + length T.sites.position * 7 + length T.muts.site * 7 → count ≤ length out → Steps o1 o2 o3 o4 o5 o6 o7 a b c d e → written_of (write.Done count) o7 ≡ writing 2 stored_limits L T S out
+    pub write_done : {o1 o2 o3 o4 o5 o6 o7 : List ℕ} {a b c d e : ℕ} (count : ℕ) → count ≡ 8 + length S * 6 + length T.nodes.time * 10 + length T.edges.left * 14 + length T.sites.position * 7 + length T.muts.site * 7 → count ≤ length out → Steps o1 o2 o3 o4 o5 o6 o7 a b c d e → written_of (Ok count) o7 ≡ writing 2 stored_limits L T S out
     unfolding writing laid if_done left_by
     write_done {o1} {o2} {o3} {o4} {o5} {o6} {o7} {a} {b} {c} {d} {e} count q h t =
         let r : 8 + length S * 6 + length T.nodes.time * 10 + length T.edges.left * 14 + length T.sites.position * 7 + length T.muts.site * 7 ≤ length out = omega arith in
@@ -210,3 +209,78 @@ module _ (T : Tables) (s : Shaped T) where
   muts_same =
       let a : _ = even_head (shape_even T.muts.site (T.muts.node ∷ T.muts.derived ∷ []) s.muts) in
       (a.0, (even_head a.1).0)
+
+-- ---- as the code has it
+
+-- the lengths of lent columns, and how many rows they are
+abbrev pub lengths_of : Lent → Lengths
+lengths_of t = record { time = length t.time.now; birth = length t.birth.now; population = length t.population.now; left = length t.left.now; right = length t.right.now; parent = length t.parent.now; child = length t.child.now; position = length t.position.now; ancestral = length t.ancestral.now; site = length t.site.now; node = length t.node.now; derived = length t.derived.now }
+
+abbrev pub rows_of : Lent → List ℕ → Rows
+rows_of t S = record { nodes = length t.time.now; edges = length t.left.now; sites = length t.position.now; mutations = length t.site.now; samples = length S }
+
+pub long_of : (t : Lent) → Long (lengths_of t) (lent_in t)
+long_of t = record { time = refl; birth = refl; population = refl; left = refl; right = refl; parent = refl; child = refl; position = refl; ancestral = refl; site = refl; node = refl; derived = refl }
+
+pub counted_of : (t : Lent) (S : List ℕ) → Counted (rows_of t S) (lent_in t) S
+counted_of t S = record { nodes = refl; edges = refl; sites = refl; muts = refl; samples = refl }
+
+module _ (L : ℕ) (t : Lent) (S out : List ℕ) {u : Option ℕ} (f : Uneven (lengths_of t) u) where
+  pub lent_ragged : (k : ℕ) → u ≡ Some k → written_of (Err (Ragged k)) out ≡ writing 2 stored_limits L (lent_in t) S out
+  lent_ragged k e = write_ragged L (lent_in t) S out (lengths_of t) (long_of t) u f k e
+
+  module _ (d : u ≡ None) where
+    pub lent_shaped : Shaped (lent_in t)
+    lent_shaped = write_shaped L (lent_in t) S out (lengths_of t) (long_of t) u f d
+
+    module _ {most : Rows} (q : most ≡ most_rows) {x : Option ℕ} (g : Lacking (rows_of t S) most x) where
+      pub lent_over : (k : ℕ) → x ≡ Some k → written_of (Err (TooMany k)) out ≡ writing 2 stored_limits L (lent_in t) S out
+      lent_over k e = write_over L (lent_in t) S out lent_shaped (rows_of t S) (counted_of t S) most q x g k e
+
+      module _ (y : x ≡ None) where
+        pub lent_ample : Ample (rows_of t S) most_rows
+        lent_ample = write_ample L (lent_in t) S out (rows_of t S) most q x g y
+
+        pub lent_within : Within stored_limits (lent_in t) S
+        lent_within = all_within (rows_of t S) (lent_in t) S (counted_of t S) lent_ample
+
+        -- the first edge that is too wide, the first mutation, and the first row with a population
+        module _ {a : Option ℕ} (p : a ≡ lowest_row (too_wide 2 t.parent.now t.child.now) (length t.parent.now)) where
+          pub lent_edge : (k : ℕ) → a ≡ Some k → written_of (Err (EdgeWide k)) out ≡ writing 2 stored_limits L (lent_in t) S out
+          lent_edge k e =
+              let w : _ = lowest_row-some (too_wide 2 t.parent.now t.child.now) (length t.parent.now) k (sym e ∙ p) in
+              write_edge L (lent_in t) S out lent_shaped lent_within (length t.parent.now) k (edges_same (lent_in t) lent_shaped).1 w.2 w.0
+
+          module _ (z : a ≡ None) where
+            pub edges_pass : (i : ℕ) → i < length t.left.now → too_wide 2 t.parent.now t.child.now i ≡ false
+            edges_pass = edges_narrow L (lent_in t) S out lent_shaped lent_within (length t.parent.now) (length t.parent.now) (edges_same (lent_in t) lent_shaped).1 (sym (lowest_row-none (too_wide 2 t.parent.now t.child.now) (length t.parent.now) (sym z ∙ p))) (omega arith)
+
+            module _ {b : Option ℕ} (r : b ≡ lowest_row (too_wide 2 t.site.now t.node.now) (length t.site.now)) where
+              pub lent_mutation : (k : ℕ) → b ≡ Some k → written_of (Err (MutationWide k)) out ≡ writing 2 stored_limits L (lent_in t) S out
+              lent_mutation k e =
+                  let w : _ = lowest_row-some (too_wide 2 t.site.now t.node.now) (length t.site.now) k (sym e ∙ r) in
+                  write_mutation L (lent_in t) S out lent_shaped lent_within edges_pass k w.2 w.0
+
+              module _ (z' : b ≡ None) where
+                pub muts_pass : (i : ℕ) → i < length t.site.now → too_wide 2 t.site.now t.node.now i ≡ false
+                muts_pass = muts_narrow L (lent_in t) S out lent_shaped lent_within (length t.site.now) (sym (lowest_row-none (too_wide 2 t.site.now t.node.now) (length t.site.now) (sym z' ∙ r))) (omega arith)
+
+                module _ {m : Option ℕ} (v : m ≡ lowest_row (populated t.population.now) (length t.population.now)) where
+                  pub lent_populated : (k : ℕ) → m ≡ Some k → written_of (Err (Populated k)) out ≡ writing 2 stored_limits L (lent_in t) S out
+                  lent_populated k e =
+                      let w : _ = lowest_row-some (populated t.population.now) (length t.population.now) k (sym e ∙ v) in
+                      write_populated L (lent_in t) S out lent_shaped lent_within edges_pass muts_pass (length t.population.now) k (nodes_same (lent_in t) lent_shaped).1 w.2 w.0
+
+                  module _ (z'' : m ≡ None) {n : ℕ} (c : n ≡ 8 + length S * 6 + length t.time.now * 10 + length t.left.now * 14 + length t.position.now * 7 + length t.site.now * 7) where
+                    pub lent_narrow : Narrow 2 (lent_in t)
+                    lent_narrow = record {
+                      edges = edges_pass;
+                      muts = muts_pass;
+                      nodes = nodes_settled L (lent_in t) S out lent_shaped lent_within (length t.population.now) (length t.population.now) (nodes_same (lent_in t) lent_shaped).1 (sym (lowest_row-none (populated t.population.now) (length t.population.now) (sym z'' ∙ v))) (omega arith);
+                    }
+
+                    pub lent_full : length out < n → written_of (Err (NoRoom 7)) out ≡ writing 2 stored_limits L (lent_in t) S out
+                    lent_full h = write_full L (lent_in t) S out lent_shaped lent_within lent_narrow (omega (arith, c))
+
+                    pub lent_done : n ≤ length out → {o1 o2 o3 o4 o5 o6 o7 : List ℕ} {a' b' c' d' e' : ℕ} → Steps L (lent_in t) S out lent_shaped lent_within lent_narrow o1 o2 o3 o4 o5 o6 o7 a' b' c' d' e' → written_of (Ok n) o7 ≡ writing 2 stored_limits L (lent_in t) S out
+                    lent_done h k = write_done L (lent_in t) S out lent_shaped lent_within lent_narrow n c h k

@@ -1,30 +1,26 @@
 -- The code's answers as outcomes of the two calls, and what the test of room promises.
-use Rattle.std.specs.Prelude.{◌≡◌, List, [], ◌∷◌, ℕ, ◌<◌, ◌≤◌, length}
+use Rattle.std.specs.Prelude.{◌≡◌, List, [], ◌∷◌, ℕ, ◌<◌, ◌≤◌, length, Option, Some, None, Result, Ok, Err}
 use Rattle.meaning.specs.Rows.{Tables}
 use Rattle.meaning.specs.Answer.{Answer, answer, done, stored_limits, refusal_of, room}
 use Rattle.meaning.specs.Check.{shapes}
 use Rattle.meaning.specs.Files.{Reading, Writing}
 use Rattle.stored.specs.Admitted.{Shaped}
 use Rattle.stored.specs.declared.Rows.{Rows}
-use Rattle.stored.specs.declared.Fault.{Fault}
-use Rattle.stored.specs.declared.Fault.TheVariants as fault
-use Rattle.stored.specs.declared.ReadAnswer.{ReadAnswer}
-use Rattle.stored.specs.declared.ReadAnswer.TheVariants as read
-use Rattle.stored.specs.declared.WriteAnswer.{WriteAnswer}
-use Rattle.stored.specs.declared.WriteAnswer.TheVariants as write
+use Rattle.stored.specs.declared.Contents.{Contents}
+use Rattle.meaning.specs.declared.Refusal.{Refusal}
 use Rattle.stored.specs.declared.Lengths.{Lengths}
 
 -- what reading answers, and what the lent cells hold
-abbrev pub read_of : ReadAnswer → Tables → List ℕ → Reading
-read_of (read.Done L n) cells samples = record {
+abbrev pub read_of : Result Contents Refusal → Tables → List ℕ → Reading
+read_of (Ok k) cells samples = record {
   answer = done;
-  len = L;
-  rows = record { nodes = n.nodes; edges = n.edges; sites = n.sites; mutations = n.mutations };
-  listed = n.samples;
+  len = k.len;
+  rows = record { nodes = k.rows.nodes; edges = k.rows.edges; sites = k.rows.sites; mutations = k.rows.mutations };
+  listed = k.rows.samples;
   cells = cells;
   samples = samples;
 }
-read_of (read.Refused x) cells samples = record {
+read_of (Err x) cells samples = record {
   answer = refusal_of x;
   len = 0;
   rows = record { nodes = 0; edges = 0; sites = 0; mutations = 0 };
@@ -34,9 +30,9 @@ read_of (read.Refused x) cells samples = record {
 }
 
 -- what writing answers, and what the lent bytes hold
-abbrev pub written_of : WriteAnswer → List ℕ → Writing
-written_of (write.Done n) cells = record { answer = done; bytes = n; cells = cells }
-written_of (write.Refused x) cells = record { answer = refusal_of x; bytes = 0; cells = cells }
+abbrev pub written_of : Result ℕ Refusal → List ℕ → Writing
+written_of (Ok n) cells = record { answer = done; bytes = n; cells = cells }
+written_of (Err x) cells = record { answer = refusal_of x; bytes = 0; cells = cells }
 
 -- ---- room
 
@@ -72,9 +68,9 @@ pub data Lowest (n r : Rows) : ℕ → Type 0 where
   at_muts : n.nodes ≤ r.nodes → n.edges ≤ r.edges → n.sites ≤ r.sites → r.mutations < n.mutations → Lowest n r 4
   at_samples : n.nodes ≤ r.nodes → n.edges ≤ r.edges → n.sites ≤ r.sites → n.mutations ≤ r.mutations → r.samples < n.samples → Lowest n r 5
 
-unfoldable pub Lacking : Rows → Rows → Fault → Type 0
-Lacking n r fault.Nothing = Ample n r
-Lacking n r (fault.Table t) = Lowest n r t
+unfoldable pub Lacking : Rows → Rows → Option ℕ → Type 0
+Lacking n r None = Ample n r
+Lacking n r (Some t) = Lowest n r t
 
 -- the limits, as so many rows
 abbrev pub most_rows : Rows
@@ -98,6 +94,6 @@ pub record Long (n : Lengths) (T : Tables) : Type 0 where
   pub derived : length T.muts.derived ≡ n.derived
 
 -- such columns have 01's shape, or 1 is answered with the table
-unfoldable pub Uneven : Lengths → Fault → Type 0
-Uneven n fault.Nothing = (T : Tables) → Long n T → Shaped T
-Uneven n (fault.Table t) = (T : Tables) (rest : Answer) → Long n T → shapes T rest ≡ answer 1 t
+unfoldable pub Uneven : Lengths → Option ℕ → Type 0
+Uneven n None = (T : Tables) → Long n T → Shaped T
+Uneven n (Some t) = (T : Tables) (rest : Answer) → Long n T → shapes T rest ≡ answer 1 t

@@ -1,7 +1,7 @@
 -- Small files by hand, computed from the definitions: each refusal with its offset, a file that is read and written back, and a population that is refused.
 use Rattle.std.specs.Prelude.{◌≡◌, refl, List, [], ◌∷◌, ◌++◌, ℕ}
 use Rattle.meaning.specs.Rows.{Tables}
-use Rattle.meaning.specs.Answer.{Answer, Limits, answer, done, stored_limits}
+use Rattle.meaning.specs.Answer.{Limits, answer, done, stored_limits}
 use Rattle.meaning.specs.Stored.{form, form_then}
 use Rattle.meaning.specs.Files.{found, samples_in, tables_in, written, write_answer}
 

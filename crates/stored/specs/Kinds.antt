@@ -1,19 +1,19 @@
 -- All kinds in their order, and the whole file: what was written is read, and what was read is written.
 use Rattle.std.specs.Prelude.{◌≡◌, Bool, true, List, [], ◌∷◌, ◌++◌, ℕ, zero, suc, ◌+◌, ◌*◌, ◌^◌, ◌<◌, ◌≤◌, eqb, leb, ltb, take, drop}
 use Rattle.std.proofs.Math.Path.{refl, ap}
-use Rattle.std.proofs.Common.{sym, ap₂, ◌∙◌, append-nil, zero-mul, ltb-true, ltb-false, le-ltb, take-append-drop, length-drop, length-append, drop_at, drop-drop}
+use Rattle.std.proofs.Common.{sym, ap₂, ◌∙◌, zero-mul, ltb-true, ltb-false, le-ltb, take-append-drop, length-drop, length-append, drop_at, drop-drop}
 use Rattle.std.proofs.Math.Bool.{false, not}
 use native.Mathlib.Omega.{arith}
 use Rattle.std.proofs.Math.ListN.{length}
 use Rattle.std.proofs.Math.Seq.{drop-length}
-use Rattle.meaning.specs.Words.{and, at}
+use Rattle.meaning.specs.Words.{and}
 use Rattle.meaning.specs.Answer.{Answer, refuse, accepted}
 use Rattle.laws.specs.Bools.{clash, and_of, not_of, not_no}
 use Rattle.laws.specs.Counting.{length_rows}
 use Rattle.meaning.specs.Stored.{Kind, Form, number, bytes_of, is_mark, size, rows_at, after, stop_then, kind_then, end_then, kinds_then, form_then, columns, tables_from, record_at, records_from, height, kinds_bytes, form_bytes}
 use Rattle.form.specs.Refusals.{refuse_no, passed}
 use Rattle.form.specs.Numbers.{Bytes, length_bytes, number_written, bytes_read}
-use Rattle.form.specs.Marks.{Marked, marked, marked_front, front_there, front_mark, other_mark, whole_marked, whole_is}
+use Rattle.form.specs.Marks.{marked, marked_front, front_mark, other_mark, whole_marked, whole_is}
 use Rattle.form.specs.Records.{Fit, records_read, records_written, stand_written, read_columns}
 
 -- ---- kinds that can be told apart

@@ -1,13 +1,13 @@
 -- Nothing is lost on the way: what was written reads back as the same tables, and an accepted file is written back byte for byte.
-use Rattle.std.specs.Prelude.{◌≡◌, refl, Bool, true, false, List, [], ◌∷◌, ℕ, ◌+◌, ◌*◌, ◌^◌, ◌<◌, ◌≤◌, leb, ltb, length}
+use Rattle.std.specs.Prelude.{◌≡◌, refl, true, false, List, [], ◌∷◌, ℕ, ◌+◌, ◌*◌, ◌^◌, ◌<◌, ◌≤◌, leb, ltb, length}
 use Rattle.std.proofs.Common.{sym, ap, ap₂, ◌∙◌, arith, leb-false}
 use Rattle.std.proofs.lemmas.Bool.{lt-leb}
-use Rattle.meaning.specs.Words.{or, at, rows, zeros}
+use Rattle.meaning.specs.Words.{at, rows, zeros}
 use Rattle.meaning.specs.Rows.{Tables}
 use Rattle.meaning.specs.Answer.{Answer, Limits, done, refuse, accepted, ragged}
 use Rattle.laws.specs.Bools.{or_no}
 use Rattle.laws.specs.Counting.{length_rows, get_rows}
-use Rattle.meaning.specs.Stored.{Kind, number, kinds, form, SA, ND, ED, Si, MU, size, rows_at, after, form_then, form_bytes, columns, tables_from, height}
+use Rattle.meaning.specs.Stored.{Kind, number, kinds, form, SA, ND, ED, Si, MU, size, rows_at, form_then, form_bytes, columns, tables_from, height}
 use Rattle.meaning.specs.Files.{filed, samples_in, tables_in, found, nodes_from, edges_from, sites_from, muts_from, handed, room_answer, reading, too_wide, written, write_answer, laid, writing}
 use Rattle.form.specs.Refusals.{Even, even_head, even_shape, shape_even}
 use Rattle.form.specs.Numbers.{Bytes, number_below}

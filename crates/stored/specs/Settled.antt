@@ -1,5 +1,5 @@
 -- The population 0: each row read has it, and a file is written only of rows that have it.
-use Rattle.std.specs.Prelude.{◌≡◌, refl, Bool, true, false, not, List, [], ◌∷◌, ℕ, suc, ◌<◌, eqb, length}
+use Rattle.std.specs.Prelude.{◌≡◌, refl, false, not, List, [], ◌∷◌, ℕ, suc, ◌<◌, eqb, length}
 use Rattle.std.proofs.Common.{sym, ap, ap₂, arith, eqb-true}
 use Rattle.std.proofs.lemmas.List.{length-replicate, get_or-replicate}
 use Rattle.meaning.specs.Words.{zeros}

@@ -4,16 +4,18 @@
 
 ghost use Rattle.std.specs.Prelude.{◌≡◌};
 ghost use Rattle.meaning.specs.Rows.{node_table, edge_table, site_table, mutation_table, tables};
+ghost use Rattle.meaning.specs.Columns.{lent_in};
 ghost use Rattle.meaning.specs.Answer.{stored_limits};
 ghost use Rattle.meaning.specs.Files.{reading, writing};
 ghost use Rattle.stored.specs.Answers.{read_of, written_of};
 
 mod measure; // measure.rt: whether what was found fits what is lent
 
-use form::Scan;
+use meaning::Refusal;
+use meaning::columns::Lent;
 
 // The rows of each table: as many as are found, as many as there is room for, or as many as were read.
-#[derive(Clone, Copy)]
+#[derive(Clone, Copy, Debug, PartialEq, Eq)]
 pub struct Rows {
     pub nodes: usize,
     pub edges: usize,
@@ -22,22 +24,15 @@ pub struct Rows {
     pub samples: usize,
 }
 
-// A test of the tables by their numbers: nothing, or the lowest table at fault.
-#[derive(Drop)]
-pub enum Fault {
-    Nothing,
-    Table(usize),
-}
-
-// The answer of reading.
-#[derive(Drop)]
-pub enum ReadAnswer {
-    Done { len: u32, rows: Rows },
-    Refused(meaning::Refusal),
+// What a file that was read holds: L, and so many rows of each table.
+#[derive(Clone, Copy, Debug, PartialEq, Eq)]
+pub struct Contents {
+    pub len: u32,
+    pub rows: Rows,
 }
 
 // The lengths of the lent columns.
-#[derive(Drop)]
+#[derive(Clone, Copy, Debug, PartialEq, Eq)]
 pub struct Lengths {
     pub time: usize,
     pub birth: usize,
@@ -51,13 +46,6 @@ pub struct Lengths {
     pub site: usize,
     pub node: usize,
     pub derived: usize,
-}
-
-// The answer of writing.
-#[derive(Drop)]
-pub enum WriteAnswer {
-    Done(usize),
-    Refused(meaning::Refusal),
 }
 
 // Reads a stored file into lent columns.
@@ -76,7 +64,7 @@ pub fn read(
     node: &mut [u32],
     derived: &mut [u8],
     samples: &mut [u32],
-) -> ReadAnswer
+) -> Result<Contents, Refusal>
     ensures { read_of result
         (tables
         (node_table time.new birth.new population.new)
@@ -90,79 +78,7 @@ pub fn read(
         (site_table position.old ancestral.old)
         (mutation_table site.old node.old derived.old)) samples.old }
 {
-    let found = match form::walk::scan(bytes) {
-        Scan::Found(l) => l,
-        Scan::Refused(x) => return ReadAnswer::Refused(x),
-    };
-    let lent = Rows {
-        nodes: measure::least3(time.len(), birth.len(), population.len()),
-        edges: measure::least4(left.len(), right.len(), parent.len(), child.len()),
-        sites: measure::least(position.len(), ancestral.len()),
-        mutations: measure::least3(site.len(), node.len(), derived.len()),
-        samples: samples.len(),
-    };
-    let rows = measure::found_rows(found);
-    match measure::lacking(rows, lent) {
-        Fault::Table(t) => ReadAnswer::Refused(meaning::Refusal::NoRoom(t)),
-        Fault::Nothing => {
-            let len = form::fill::get32(bytes, 2);
-            let nodes_at = found.nodes;
-            let edges_at = found.edges;
-            let sites_at = found.sites;
-            let mutations_at = found.mutations;
-            let samples_at = found.samples;
-            form::fill::nodes(bytes, nodes_at.start, nodes_at.count, time, birth);
-            measure::settle(population, nodes_at.count);
-            form::fill::edges(
-                bytes,
-                edges_at.start,
-                edges_at.count,
-                left,
-                right,
-                parent,
-                child,
-            );
-            form::fill::sites(bytes, sites_at.start, sites_at.count, position, ancestral);
-            form::fill::mutations(
-                bytes,
-                mutations_at.start,
-                mutations_at.count,
-                site,
-                node,
-                derived,
-            );
-            form::fill::samples(bytes, samples_at.start, samples_at.count, samples);
-            ReadAnswer::Done { len, rows }
-        }
-    }
-}
-
-// Writes L, tables and samples into lent bytes.
-pub fn write(
-    len: u32,
-    samples: &[u32],
-    time: &[u32],
-    birth: &[u32],
-    population: &[u16],
-    left: &[u32],
-    right: &[u32],
-    parent: &[u32],
-    child: &[u32],
-    position: &[u32],
-    ancestral: &[u8],
-    site: &[u32],
-    node: &[u32],
-    derived: &[u8],
-    bytes: &mut [u8],
-) -> WriteAnswer
-    ensures { written_of result bytes.new
-        ≡ writing 2 stored_limits len
-        (tables
-        (node_table time.now birth.now population.now)
-        (edge_table left.now right.now parent.now child.now)
-        (site_table position.now ancestral.now)
-        (mutation_table site.now node.now derived.now)) samples.now bytes.old }
-{
+    let found = form::walk::scan(bytes)?;
     let lengths = Lengths {
         time: time.len(),
         birth: birth.len(),
@@ -177,41 +93,92 @@ pub fn write(
         node: node.len(),
         derived: derived.len(),
     };
-    if let Fault::Table(t) = measure::uneven(lengths) {
-        return WriteAnswer::Refused(meaning::Refusal::Ragged(t));
+    let rows = measure::found_rows(found);
+    if let Some(table) = measure::lacking(rows, measure::room(lengths, samples.len())) {
+        return Err(Refusal::NoRoom(table));
+    }
+    let len = form::fill::get32(bytes, 2);
+    form::fill::nodes(bytes, found.nodes.start, found.nodes.count, time, birth);
+    measure::settle(population, found.nodes.count);
+    form::fill::edges(
+        bytes,
+        found.edges.start,
+        found.edges.count,
+        left,
+        right,
+        parent,
+        child,
+    );
+    form::fill::sites(
+        bytes,
+        found.sites.start,
+        found.sites.count,
+        position,
+        ancestral,
+    );
+    form::fill::mutations(
+        bytes,
+        found.mutations.start,
+        found.mutations.count,
+        site,
+        node,
+        derived,
+    );
+    form::fill::samples(bytes, found.samples.start, found.samples.count, samples);
+    Ok(Contents { len, rows })
+}
+
+// Writes L, tables and samples into lent bytes.
+pub fn write(len: u32, tables: Lent, samples: &[u32], bytes: &mut [u8]) -> Result<usize, Refusal>
+    ensures { written_of result bytes.new ≡ writing 2 stored_limits len (lent_in tables.entry) samples.now bytes.old }
+{
+    let t = tables;
+    let lengths = Lengths {
+        time: t.time.len(),
+        birth: t.birth.len(),
+        population: t.population.len(),
+        left: t.left.len(),
+        right: t.right.len(),
+        parent: t.parent.len(),
+        child: t.child.len(),
+        position: t.position.len(),
+        ancestral: t.ancestral.len(),
+        site: t.site.len(),
+        node: t.node.len(),
+        derived: t.derived.len(),
+    };
+    if let Some(table) = measure::uneven(lengths) {
+        return Err(Refusal::Ragged(table));
     }
     let rows = Rows {
-        nodes: time.len(),
-        edges: left.len(),
-        sites: position.len(),
-        mutations: site.len(),
+        nodes: t.time.len(),
+        edges: t.left.len(),
+        sites: t.position.len(),
+        mutations: t.site.len(),
         samples: samples.len(),
     };
-    if let Fault::Table(t) = measure::lacking(rows, measure::most()) {
-        return WriteAnswer::Refused(meaning::Refusal::TooMany(t));
+    if let Some(table) = measure::lacking(rows, measure::most()) {
+        return Err(Refusal::TooMany(table));
     }
-    let edge = measure::first_wide(parent, child);
-    if edge < parent.len() {
-        return WriteAnswer::Refused(meaning::Refusal::EdgeWide(edge));
+    if let Some(edge) = measure::first_wide(t.parent, t.child) {
+        return Err(Refusal::EdgeWide(edge));
     }
-    let mutation = measure::first_wide(site, node);
-    if mutation < site.len() {
-        return WriteAnswer::Refused(meaning::Refusal::MutationWide(mutation));
+    if let Some(mutation) = measure::first_wide(t.site, t.node) {
+        return Err(Refusal::MutationWide(mutation));
     }
-    let stock = measure::first_populated(population);
-    if stock < population.len() {
-        return WriteAnswer::Refused(meaning::Refusal::Populated(stock));
+    if let Some(stock) = measure::first_populated(t.population) {
+        return Err(Refusal::Populated(stock));
     }
     let count = measure::file_bytes(rows);
     if bytes.len() < count {
-        return WriteAnswer::Refused(meaning::Refusal::NoRoom(meaning::Bytes::NUMBER));
+        return Err(Refusal::NoRoom(meaning::Bytes::NUMBER));
     }
     form::lay::head(len, bytes);
     let a = form::lay::samples(samples, 6, bytes);
-    let b = form::lay::nodes(time, birth, a, bytes);
-    let c = form::lay::edges(left, right, parent, child, b, bytes);
-    let d = form::lay::sites(position, ancestral, c, bytes);
-    let e = form::lay::mutations(site, node, derived, d, bytes);
-    form::lay::mark(e, 69, 78, bytes);
-    WriteAnswer::Done(count)
+    let b = form::lay::nodes(t.time, t.birth, a, bytes);
+    let c = form::lay::edges(t.left, t.right, t.parent, t.child, b, bytes);
+    let d = form::lay::sites(t.position, t.ancestral, c, bytes);
+    let e = form::lay::mutations(t.site, t.node, t.derived, d, bytes);
+    form::lay::mark(e, *b"EN", bytes);
+    Ok(count)
 }

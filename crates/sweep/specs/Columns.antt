@@ -7,6 +7,7 @@ use Rattle.bridge.specs.Parents.{code}
 use Rattle.byrows.specs.Rows.{up_row, low_row}
 use Rattle.placing.specs.Placing.{Moves}
 use Rattle.runs.specs.Runs.{OpenRuns, Store}
+use Rattle.sweep.specs.declared.Source.{Source}
 
 -- the columns that are read: nodes, edges, the edge rows by left and by right, sites and mutations
 pub record Input : Type 0 where
@@ -40,6 +41,9 @@ pub record State : Type 0 where
 
 abbrev pub input_of : List ℕ → List ℕ → List ℕ → List ℕ → List ℕ → List ℕ → List ℕ → List ℕ → List ℕ → List ℕ → List ℕ → Input
 input_of time sample left right parent child by_left by_right position site node = record { time = time; sample = sample; left = left; right = right; parent = parent; child = child; by_left = by_left; by_right = by_right; position = position; site = site; node = node }
+
+abbrev pub source_in : Source → Input
+source_in s = input_of s.time.now s.sample.now s.edges.left.now s.edges.right.now s.edges.parent.now s.edges.child.now s.by_left.now s.by_right.now s.position.now s.site.now s.node.now
 
 abbrev pub runs_of : List ℕ → List ℕ → OpenRuns
 runs_of left par = record { left = left; par = par }

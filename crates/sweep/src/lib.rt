@@ -4,37 +4,30 @@
 #![tactic(auto)]
 
 ghost use Rattle.std.specs.Prelude.{ℕ, ◌<◌, length, List};
-ghost use Rattle.mend.specs.Kept.{Filled};
 ghost use Rattle.tree.specs.TreeAt.{Flags};
 ghost use Rattle.sweep.specs.Sweeping.{Asked, Steady, Going, Came, Done};
 ghost use Rattle.meaning.specs.Rows.{Edge};
-ghost use Rattle.sweep.specs.Columns.{input_of, moves_of, runs_of, state_of, store_of};
+ghost use Rattle.sweep.specs.Columns.{input_of, moves_of, runs_of, source_in, state_of, store_of};
 
-// Every cell is v.
-fn fill(column: &mut [u32], v: u32)
-    ensures { Filled column.new (length column.old) v }
-{
-    let mut i = 0;
-    while i < column.len() {
-        column[i] = v;
-        i += 1;
-    }
-}
+use meaning::columns::EdgeColumns;
+use runs::RunColumn;
 
-// No row is marked.
-fn clear(marks: &mut [u8])
-    ensures { Filled marks.new (length marks.old) 0 }
-{
-    let mut i = 0;
-    while i < marks.len() {
-        marks[i] = 0;
-        i += 1;
-    }
+// The columns that a sweep reads: those of the nodes, the edges with their rows by left and by right, and the sites and mutations.
+#[derive(Clone, Copy)]
+pub struct Source<'a> {
+    pub time: &'a [u32],
+    pub sample: &'a [u8],
+    pub edges: EdgeColumns<'a>,
+    pub by_left: &'a [u32],
+    pub by_right: &'a [u32],
+    pub position: &'a [u32],
+    pub site: &'a [u32],
+    pub node: &'a [u32],
 }
 
 // How far a sweep has come: edges begun and ended, edges finished, mutations placed and those of them that move, and the position to deal with
 // next.
-#[derive(Drop)]
+#[derive(Clone, Copy, Debug, PartialEq, Eq)]
 pub struct Reach {
     pub begun: usize,
     pub ended: usize,
@@ -45,7 +38,7 @@ pub struct Reach {
 }
 
 // What a sweep counts: finished edges, or one more than their limit, and mutations that move.
-#[derive(Drop)]
+#[derive(Clone, Copy, Debug, PartialEq, Eq)]
 pub struct Tally {
     pub edges: usize,
     pub mutations: usize,
@@ -55,17 +48,7 @@ pub struct Tally {
 // change get their rows.
 fn step(
     len: u32,
-    time: &[u32],
-    sample: &[u8],
-    left: &[u32],
-    right: &[u32],
-    parent: &[u32],
-    child: &[u32],
-    bl: &[u32],
-    br: &[u32],
-    position: &[u32],
-    site: &[u32],
-    node: &[u32],
+    source: Source,
     par: &mut [u32],
     count: &mut [u32],
     sum: &mut [u32],
@@ -85,15 +68,14 @@ fn step(
     from: Reach,
 ) -> Reach
     requires { Steady len
-        (input_of time.now sample.now left.now right.now parent.now child.now bl.now br.now position.now site.now node.now)
+        (source_in source)
         (length touched.old) listed.old from.next
         (state_of par.old count.old sum.old low.old up.old (runs_of open_left.old open_par.old)
         (store_of fl.old fr.old fp.old fc.old stood.old from.made) (moves_of mrow.old mlow.old from.kept) from.begun
         from.ended from.placed) ×
         (from.next < len) }
     ensures { Came len
-        (input_of time.now sample.now left.now right.now parent.now child.now
-        bl.now br.now position.now site.now node.now)
+        (source_in source.entry)
         (length touched.old) listed.old from.next
         (state_of par.old count.old sum.old low.old up.old
         (runs_of open_left.old open_par.old)
@@ -108,26 +90,44 @@ fn step(
 {
     let x = from.next;
     let c = tree::advance(
-        time, sample, par, count, sum, low, up, touched, listed, left, right, parent, child, bl,
-        br, from.begun, from.ended, x,
-    );
-    let i = c.begun;
-    let j = c.ended;
-    let made = runs::settle(
-        x, len, touched, listed, c.touched, up, open_left, open_par, fl, fr, fp, fc, stood,
-        from.made,
-    );
-    let next = tree::next_change(left, right, bl, br, i, j, len);
-    let p = placing::place(
-        time,
-        sample,
+        source.time,
+        source.sample,
         par,
         count,
         sum,
         low,
-        position,
-        site,
-        node,
+        up,
+        touched,
+        listed,
+        source.edges,
+        source.by_left,
+        source.by_right,
+        from.begun,
+        from.ended,
+        x,
+    );
+    let made = runs::settle(
+        x, len, touched, listed, c.touched, up, open_left, open_par, fl, fr, fp, fc, stood,
+        from.made,
+    );
+    let next = tree::next_change(
+        source.edges,
+        source.by_left,
+        source.by_right,
+        c.begun,
+        c.ended,
+        len,
+    );
+    let p = placing::place(
+        source.time,
+        source.sample,
+        par,
+        count,
+        sum,
+        low,
+        source.position,
+        source.site,
+        source.node,
         mrow,
         mlow,
         from.placed,
@@ -135,29 +135,19 @@ fn step(
         next,
     );
     Reach {
-        begun: i,
-        ended: j,
-        made: made,
+        begun: c.begun,
+        ended: c.ended,
+        made,
         placed: p.placed,
         kept: p.kept,
-        next: next,
+        next,
     }
 }
 
 // From the start of the chromosome to its end, where the open runs are finished.
 fn walk(
     len: u32,
-    time: &[u32],
-    sample: &[u8],
-    left: &[u32],
-    right: &[u32],
-    parent: &[u32],
-    child: &[u32],
-    bl: &[u32],
-    br: &[u32],
-    position: &[u32],
-    site: &[u32],
-    node: &[u32],
+    source: Source,
     par: &mut [u32],
     count: &mut [u32],
     sum: &mut [u32],
@@ -176,24 +166,22 @@ fn walk(
     mlow: &mut [u32],
 ) -> Tally
     requires { Steady len
-        (input_of time.now sample.now left.now right.now parent.now child.now bl.now br.now position.now site.now node.now)
+        (source_in source)
         (length touched.old) listed.old 0
         (state_of par.old count.old sum.old low.old up.old (runs_of open_left.old open_par.old)
         (store_of fl.old fr.old fp.old fc.old stood.old 0) (moves_of mrow.old mlow.old 0) 0 0 0) }
     ensures { (Q : List ℕ) →
-        Flags sample.now Q (length time.now) →
+        Flags source.entry.sample.now Q (length source.entry.time.now) →
         (F : List Edge) →
         Going len
-        (input_of time.now sample.now left.now right.now parent.now child.now
-        bl.now br.now position.now site.now node.now)
+        (source_in source.entry)
         0 Q F
         (state_of par.old count.old sum.old low.old up.old
         (runs_of open_left.old open_par.old)
         (store_of fl.old fr.old fp.old fc.old stood.old 0)
         (moves_of mrow.old mlow.old 0) 0 0 0) →
         Done len
-        (input_of time.now sample.now left.now right.now parent.now child.now
-        bl.now br.now position.now site.now node.now)
+        (source_in source.entry)
         Q (store_of fl.old fr.old fp.old fc.old stood.old 0)
         (moves_of mrow.old mlow.old 0)
         (store_of fl.new fr.new fp.new fc.new stood.new result.edges)
@@ -207,36 +195,36 @@ fn walk(
         kept: 0,
         next: 0,
     };
+    // The sweep counts nothing: it goes from change to change.
     while at.next < len {
         let reached = step(
-            len, time, sample, left, right, parent, child, bl, br, position, site, node, par,
-            count, sum, low, up, touched, listed, open_left, open_par, fl, fr, fp, fc, stood, mrow,
-            mlow, at,
+            len, source, par, count, sum, low, up, touched, listed, open_left, open_par, fl, fr,
+            fp, fc, stood, mrow, mlow, at,
         );
         at = reached;
     }
     let edges = runs::close(len, open_left, open_par, fl, fr, fp, fc, stood, at.made);
     Tally {
-        edges: edges,
+        edges,
         mutations: at.kept,
     }
 }
 
 // Sweeps along the chromosome: the finished edges of all output parents, and the mutations that move with their nearest standing rows, each
-// written while there are cells, and counted in any case.
-pub fn sweep(
+// written while there are cells, and counted in any case. The columns come apart, as the caller has them: their lifetimes are one.
+pub fn sweep<'a>(
     len: u32,
-    time: &[u32],
-    sample: &[u8],
-    left: &[u32],
-    right: &[u32],
-    parent: &[u32],
-    child: &[u32],
-    bl: &[u32],
-    br: &[u32],
-    position: &[u32],
-    site: &[u32],
-    node: &[u32],
+    time: &'a [u32],
+    sample: &'a [u8],
+    left: &'a [u32],
+    right: &'a [u32],
+    parent: &'a [u32],
+    child: &'a [u32],
+    bl: &'a [u32],
+    br: &'a [u32],
+    position: &'a [u32],
+    site: &'a [u32],
+    node: &'a [u32],
     par: &mut [u32],
     count: &mut [u32],
     sum: &mut [u32],
@@ -270,12 +258,28 @@ pub fn sweep(
         (moves_of mrow.new mlow.new result.mutations) }
 {
     tree::start(time, sample, par, count, sum, low, up);
-    fill(open_left, 0);
-    fill(open_par, tree::NONE);
-    clear(listed);
-    clear(stood);
+    open_left.fill(0);
+    open_par.fill(RunColumn::NONE);
+    listed.fill(0);
+    stood.fill(0);
+    let edges = EdgeColumns {
+        left,
+        right,
+        parent,
+        child,
+    };
+    let source = Source {
+        time,
+        sample,
+        edges,
+        by_left: bl,
+        by_right: br,
+        position,
+        site,
+        node,
+    };
     walk(
-        len, time, sample, left, right, parent, child, bl, br, position, site, node, par, count,
-        sum, low, up, touched, listed, open_left, open_par, fl, fr, fp, fc, stood, mrow, mlow,
+        len, source, par, count, sum, low, up, touched, listed, open_left, open_par, fl, fr, fp,
+        fc, stood, mrow, mlow,
     )
 }

@@ -8,7 +8,7 @@ use native.Mathlib.Omega.{arith}
 use borrow.Author.Tests.{eq-eqb, eqb-true, leb-false, lt-ltb}
 use lib.Dec.{eqb, leb, ltb}
 use lib.ListN.{length, get_or}
-use Rattle.meaning.specs.Words.{and, or, at, mem, count, rows, index_of}
+use Rattle.meaning.specs.Words.{or, at, mem, count, index_of}
 use Rattle.meaning.specs.Rows.{EdgeColumns}
 use Rattle.meaning.specs.Check.{edge_broken, share, edge_shared}
 use Rattle.laws.specs.Bools.{clash, or_no, and_yes, eq?}

@@ -14,7 +14,8 @@ use Rattle.meaning.specs.Forest.{Par, Ages, reached}
 use Rattle.laws.specs.Bools.{clash, not_true, eq?}
 use Rattle.laws.specs.Members.{mem_nil, mem_here, mem_there, mem_cases}
 use Rattle.laws.specs.Facts.{In, Distinct, nil, cons}
-use Rattle.bridge.specs.Parents.{code, parent_row}
+use Rattle.bridge.specs.Parents.{parent_row}
+use Rattle.std.proofs.Common.{Some, None}
 use Rattle.forest.specs.Passing.{first_some, first_of-is}
 use Rattle.forest.specs.TreeLaws.{Nodes, feeds_of, of_feeds}
 use Rattle.forest.specs.Lowest.{Rule, stands_rule}
@@ -22,10 +23,10 @@ use Rattle.forest.specs.Code.{low_here, low_on}
 use Rattle.mend.specs.Right.{live, stands}
 use Rattle.mend.specs.Line.{par_of, Low, here, down, Lives}
 use Rattle.mend.specs.Kept.{Mended}
-use Rattle.tree.specs.TreeAt.{stands_at, low_at, node_rows, Flags}
-use Rattle.mend.proofs.Reading.{par_of-is, stands_no}
+use Rattle.tree.specs.TreeAt.{stands_at, low_at, row_given, node_rows, Flags}
+use Rattle.mend.proofs.Reading.{lt?, par_of-is, stands_no}
 use Rattle.mend.proofs.Only.{lives}
-use Rattle.tree.proofs.Reaching.{aged, live_reached, stands_all}
+use Rattle.tree.proofs.Reaching.{aged, no_row, live_reached, stands_all}
 
 -- ---- the node rows, each once
 
@@ -103,10 +104,13 @@ module _ {T S P C M Q : List ℕ} (md : Mended T S P C M) (fl : Flags S Q (lengt
     unfolding low_at stands_at
     at_x u = ap₂ (λ (F : Par) (f : ℕ → Bool). def.low (node_rows (length P)) F (reached F Q) f Ages u) is (stands_all md fl ∙ ap (λ (F : Par). def.stands (node_rows (length P)) F Q) is)
 
-    pub low_is : {w u : ℕ} → Low (par_of P) (stands S C) (live S C) w u → w ≡ code (low_at E Q (length P) x u)
-    unfolding code
-    low_is {w} {u} h = ap code (sym (low_some h) ∙ at_x u)
+    pub low_is : {w u : ℕ} → Low (par_of P) (stands S C) (live S C) w u → Some w ≡ row_given (low_at E Q (length P) x u)
+    low_is {w} {u} h = ap row_given (sym (low_some h) ∙ at_x u)
 
-    pub low_is_none : (u : ℕ) → live S C u ≡ false → 4294967295 ≡ code (low_at E Q (length P) x u)
-    unfolding code
-    low_is_none u n = ap code (sym (low_dead u n) ∙ at_x u)
+    pub low_is_none : (u : ℕ) → live S C u ≡ false → None ≡ row_given (low_at E Q (length P) x u)
+    low_is_none u n = ap row_given (sym (low_dead u n) ∙ at_x u)
+
+-- a row that the only live children lead to is a row
+pub low_row : {T S P C M : List ℕ} {w u : ℕ} → Mended T S P C M → Low (par_of P) (stands S C) (live S C) w u → w < length P
+low_row {P = P} {w = w} md (here k) = ⊎_elim (λ (l : w < length P). l) (λ (l : length P ≤ w). absurd (clash k (no_row md w l))) (lt? w (length P))
+low_row md (down k e l y) = low_row md y

@@ -2,21 +2,19 @@
 use mathlib.Core.Path.{◌≡◌, refl, sym, ap, subst, ◌∙◌}
 use mathlib.Core.Bool.{Bool, true, false}
 use mathlib.Core.List.{List}
-use mathlib.Core.Option.{none}
 use mathlib.Core.Logic.{◌⊎◌, inl, inr, ⊎_elim}
-use Prim.Native.Nat.{ℕ, zero, suc, ◌+◌, ◌%◌, ◌<◌, ◌≤◌}
+use Prim.Native.Nat.{ℕ, min, zero, suc, ◌+◌, ◌%◌, ◌<◌, ◌≤◌}
 use native.Mathlib.Omega.{arith}
 use borrow.Author.Tests.{lt-ltb, le-ltb, ne_eqb}
-use lib.ListN.{length, get_or, set}
-use lib.Seq.{get_or-set_same, get_or-set_other}
-use Rattle.meaning.specs.Words.{and, rows}
+use lib.ListN.{length, get_or}
+use Rattle.meaning.specs.Words.{rows}
 use Rattle.mend.specs.Right as right
 use Rattle.mend.specs.Right.{W, total, one, row, live, stands, feeds, Grows}
 use Rattle.mend.specs.Line.{par_of, Low, here, root}
 use Rattle.mend.specs.Kept.{Mended, Kept, Filled}
 use Rattle.tree.specs.Sweep.{Index, Cut, Ahead, seen, Plan, Between, Swept, next_key, next_change}
 use Rattle.mend.proofs.Reading.{lt?, live_cases, stands_sample, no_parent, opt_none}
-use Rattle.laws.specs.Bools.{clash, eq?}
+use Rattle.laws.specs.Bools.{clash}
 use Rattle.laws.specs.Counting.{length_rows, get_rows}
 use Rattle.tree.proofs.Reaching.{no_row, no_life}
 use Rattle.tree.proofs.Seeing.{not_begun}
@@ -47,6 +45,13 @@ module _ (key b : List ℕ) (i most : ℕ) where
   pub key_high : i < length b → most ≤ get_or key (get_or b i 0) 0 → next_key key b i most ≡ most
   unfolding next_key
   key_high l h = rw (lt-ltb i (length b) l, next_key) (rw (le-ltb (get_or key (get_or b i 0) 0) most h))
+
+  -- the lesser of the key at the cursor and `most`
+  pub key_least : i < length b → min (get_or key (get_or b i 0) 0) most ≡ next_key key b i most
+  key_least l = ⊎_elim
+      (λ (h : get_or key (get_or b i 0) 0 < most). omega (arith, key_low l h))
+      (λ (h : most ≤ get_or key (get_or b i 0) 0). omega (arith, key_high l h))
+      (lt? (get_or key (get_or b i 0) 0) most)
 
   -- it is at most the key at the cursor, at most `most`, and no less than what both are no less than
   bounds : (y : ℕ) → y ≤ most → (i < length b → y ≤ get_or key (get_or b i 0) 0) → (y ≤ next_key key b i most) × (next_key key b i most ≤ most) × (i < length b → next_key key b i most ≤ get_or key (get_or b i 0) 0)
@@ -145,8 +150,5 @@ module _ (T S : List ℕ) {P C M D U : List ℕ} {n : ℕ} (tm : length T ≡ n)
   }
 
 -- one cell more is filled
-pub fill_on : (X : List ℕ) (i v : ℕ) → i < length X → ((u : ℕ) → u < i → get_or X u 0 ≡ v) → (u : ℕ) → u < i + 1 → get_or (set X i v) u 0 ≡ v
-fill_on X i v h f u l = ⊎_elim (λ (e : u ≡ i). ap (λ (y : ℕ). get_or (set X i v) y 0) e ∙ get_or-set_same X i v 0 h) (λ (n : u ≡ i → ⊥). get_or-set_other X i u v 0 n ∙ f u (omega arith)) (eq? u i)
-
 pub filled_on : {X : List ℕ} {m n v : ℕ} → m ≡ n → Filled X m v → Filled X n v
 filled_on e f = rw (sym e) f

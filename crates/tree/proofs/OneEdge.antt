@@ -8,8 +8,8 @@ use borrow.Author.Tests.{ne_eqb, eqb-true, eqb-false}
 use lib.Dec.{eqb}
 use lib.ListN.{length, get_or, set, length-set}
 use lib.Seq.{get_or-set_same, get_or-set_other}
-use Rattle.meaning.specs.Words.{and, or}
-use Rattle.mend.specs.Right.{none, one, row, live, feeds, By, Lacks, Excess, Right, Shape, Grows, climb}
+use Rattle.meaning.specs.Words.{and}
+use Rattle.mend.specs.Right.{none, live, feeds, By, Lacks, Excess, Right, Shape, Grows}
 use Rattle.mend.specs.Kept.{Mended, Enters}
 use Rattle.mend.proofs.Mending.{shape_kept}
 use Rattle.mend.proofs.Totals.{and_false, and_true, More, grow, shrink}

@@ -150,3 +150,10 @@ end_all {x = x} pl bt h = record { begun = bt.begun; ended = cut_end x pl.rights
 -- no edge is left to begin
 pub begin_all : {T l r pa ch bl br P : List ℕ} {n i j x : ℕ} → Plan T l r pa ch bl br n → Between l r pa ch bl br P i j x (x + 1) (x + 1) (x + 1) → (i < length bl → x < get_or l (get_or bl i 0) 0) → Between l r pa ch bl br P i j (x + 1) (x + 1) (x + 1) (x + 1)
 begin_all {x = x} pl bt h = record { begun = cut_end x pl.lefts bt.begun h; ended = bt.ended; holds = bt.holds }
+
+-- past the last edge of an order none is left
+pub ended_all : {T l r pa ch bl br P : List ℕ} {n i j x : ℕ} → Plan T l r pa ch bl br n → Between l r pa ch bl br P i j x x x (x + 1) → length br ≤ j → Between l r pa ch bl br P i (length br) x x (x + 1) (x + 1)
+ended_all {br = br} {j = j} {x = x} pl bt h = let e : j ≡ length br = omega (arith, bt.ended.within) in rw (sym e) (end_all pl bt (λ k. absurd (omega arith)))
+
+pub begun_all : {T l r pa ch bl br P : List ℕ} {n i j x : ℕ} → Plan T l r pa ch bl br n → Between l r pa ch bl br P i j x (x + 1) (x + 1) (x + 1) → length bl ≤ i → Between l r pa ch bl br P (length bl) j (x + 1) (x + 1) (x + 1) (x + 1)
+begun_all {bl = bl} {i = i} {x = x} pl bt h = let e : i ≡ length bl = omega (arith, bt.begun.within) in rw (sym e) (begin_all pl bt (λ k. absurd (omega arith)))

@@ -1,11 +1,12 @@
 -- What the columns mean: the forest at a position, what is reached, what stands and the nearest standing row above, by the definitions.
-use Rattle.std.specs.Prelude.{◌≡◌, Bool, true, List, ℕ, ◌<◌, get_or}
-use Rattle.std.proofs.Math.Option.{Option}
+use Rattle.std.specs.Prelude.{◌≡◌, refl, Bool, true, List, ℕ, ◌<◌, get_or, Some, None, unwrap_or}
+use Rattle.std.specs.Prelude as std
+use Rattle.std.proofs.Math.Option.{Option, none, some}
 use Rattle.meaning.specs.Words.{mem, rows}
 use Rattle.meaning.specs.Rows.{EdgeColumns}
 use Rattle.meaning.specs.Forest as def
 use Rattle.meaning.specs.Forest.{drawn}
-use Rattle.bridge.specs.Parents.{code, parent_row}
+use Rattle.bridge.specs.Parents.{code, no_row, parent_row}
 use Rattle.mend.specs.Right.{live, stands}
 use Rattle.mend.specs.Line.{par_of}
 
@@ -39,3 +40,14 @@ pub record TreeAt (E : EdgeColumns) (Q : List ℕ) (n x : ℕ) (S P C U : List �
 unfoldable pub low_at : EdgeColumns → List ℕ → ℕ → ℕ → ℕ → Option ℕ
 unfolding parent_row stands_at rows def.low def.reached
 low_at E Q n x u = def.low (node_rows n) (parent_row E x) (def.reached (parent_row E x) Q) (stands_at E Q n x) def.Ages u
+
+-- a row or none, as code has it
+abbrev pub row_given : Option ℕ → std.Option ℕ
+row_given none = None
+row_given (some r) = Some r
+
+-- and as a cell
+pub given_cell : (o : Option ℕ) → unwrap_or (row_given o) no_row ≡ code o
+unfolding code
+given_cell none = refl
+given_cell (some r) = refl

@@ -6,9 +6,10 @@ ghost use Rattle.tree.specs.Sweep.{Plan, Between, Swept, Index, next_key, next_c
 ghost use Rattle.tree.specs.TreeAt.{columns, Flags, TreeAt};
 
 use super::edge::{insert_up, remove_up};
+use meaning::columns::EdgeColumns;
 
 // How far a sweep has come: edges begun in the order of left, edges ended in the order of right, and rows listed.
-#[derive(Drop)]
+#[derive(Clone, Copy, Debug, PartialEq, Eq)]
 pub struct Cursor {
     pub begun: usize,
     pub ended: usize,
@@ -26,10 +27,7 @@ fn end_edges(
     up: &mut [u32],
     touched: &mut [u32],
     listed: &mut [u8],
-    left: &[u32],
-    right: &[u32],
-    above: &[u32],
-    child: &[u32],
+    edges: EdgeColumns,
     bl: &[u32],
     br: &[u32],
     i: usize,
@@ -38,21 +36,20 @@ fn end_edges(
     x: u32,
 ) -> Cursor
     requires { Kept time.now sample.now parent.old count.old sum.old low.old up.old ×
-        Plan time.now left.now right.now above.now child.now bl.now br.now (length parent.old) ×
-        Between left.now right.now above.now child.now bl.now br.now parent.old i j0 x x x (x + 1) ×
+        Plan time.now edges.left.now edges.right.now edges.parent.now edges.child.now bl.now br.now (length parent.old) ×
+        Between edges.left.now edges.right.now edges.parent.now edges.child.now bl.now br.now parent.old i j0 x x x (x + 1) ×
         Listed (length up.old) k0 touched.old listed.old }
     ensures { Kept time.now sample.now parent.new count.new sum.new low.new up.new ×
-        Between left.now right.now above.now child.now bl.now br.now
+        Between edges.entry.left.now edges.entry.right.now edges.entry.parent.now edges.entry.child.now bl.now br.now
         parent.new i result.ended x x (x + 1) (x + 1) ×
         Noted (length up.old) up.old up.new touched.old listed.old touched.new
         listed.new k0 result.touched ×
         (j0 ≤ result.ended) }
 {
-    let mut j = j0;
     let mut k = k0;
-    while j < br.len() {
+    for j in j0..br.len() {
         let e = br[j];
-        if x < right[e as usize] {
+        if x < edges.right[e as usize] {
             return Cursor {
                 begun: i,
                 ended: j,
@@ -70,13 +67,12 @@ fn end_edges(
             touched,
             listed,
             k,
-            child[e as usize],
+            edges.child[e as usize],
         );
-        j += 1;
     }
     Cursor {
         begun: i,
-        ended: j,
+        ended: br.len(),
         touched: k,
     }
 }
@@ -92,10 +88,7 @@ fn begin_edges(
     up: &mut [u32],
     touched: &mut [u32],
     listed: &mut [u8],
-    left: &[u32],
-    right: &[u32],
-    above: &[u32],
-    child: &[u32],
+    edges: EdgeColumns,
     bl: &[u32],
     br: &[u32],
     i0: usize,
@@ -104,22 +97,21 @@ fn begin_edges(
     x: u32,
 ) -> Cursor
     requires { Kept time.now sample.now parent.old count.old sum.old low.old up.old ×
-        Plan time.now left.now right.now above.now child.now bl.now br.now (length parent.old) ×
-        Between left.now right.now above.now child.now bl.now br.now parent.old i0 j x (x + 1) (x + 1) (x + 1) ×
+        Plan time.now edges.left.now edges.right.now edges.parent.now edges.child.now bl.now br.now (length parent.old) ×
+        Between edges.left.now edges.right.now edges.parent.now edges.child.now bl.now br.now parent.old i0 j x (x + 1) (x + 1) (x + 1) ×
         Listed (length up.old) k0 touched.old listed.old }
     ensures { Kept time.now sample.now parent.new count.new sum.new low.new up.new ×
-        Between left.now right.now above.now child.now bl.now br.now
+        Between edges.entry.left.now edges.entry.right.now edges.entry.parent.now edges.entry.child.now bl.now br.now
         parent.new result.begun j (x + 1) (x + 1) (x + 1) (x + 1) ×
         Noted (length up.old) up.old up.new touched.old listed.old touched.new
         listed.new k0 result.touched ×
         (i0 ≤ result.begun) ×
         (result.ended ≡ j) }
 {
-    let mut i = i0;
     let mut k = k0;
-    while i < bl.len() {
+    for i in i0..bl.len() {
         let e = bl[i];
-        if x < left[e as usize] {
+        if x < edges.left[e as usize] {
             return Cursor {
                 begun: i,
                 ended: j,
@@ -137,13 +129,12 @@ fn begin_edges(
             touched,
             listed,
             k,
-            child[e as usize],
-            above[e as usize],
+            edges.child[e as usize],
+            edges.parent[e as usize],
         );
-        i += 1;
     }
     Cursor {
-        begun: i,
+        begun: bl.len(),
         ended: j,
         touched: k,
     }
@@ -160,38 +151,32 @@ pub fn advance(
     up: &mut [u32],
     touched: &mut [u32],
     listed: &mut [u8],
-    left: &[u32],
-    right: &[u32],
-    above: &[u32],
-    child: &[u32],
+    edges: EdgeColumns,
     bl: &[u32],
     br: &[u32],
     i: usize,
     j: usize,
     x: u32,
 ) -> Cursor
-    requires { Swept time.now sample.now parent.old count.old sum.old low.old up.old left.now right.now above.now child.now bl.now
+    requires { Swept time.now sample.now parent.old count.old sum.old low.old up.old edges.left.now edges.right.now edges.parent.now edges.child.now bl.now
         br.now i j x ×
         Listed (length up.old) 0 touched.old listed.old }
     ensures { Swept time.now sample.now parent.new count.new sum.new low.new up.new
-        left.now right.now above.now child.now bl.now br.now result.begun result.ended
+        edges.entry.left.now edges.entry.right.now edges.entry.parent.now edges.entry.child.now bl.now br.now result.begun result.ended
         (x + 1) ×
         ((Q : List ℕ) →
         Flags sample.now Q (length parent.new) →
-        TreeAt (columns left.now right.now above.now child.now) Q (length parent.new) x
+        TreeAt (columns edges.entry.left.now edges.entry.right.now edges.entry.parent.now edges.entry.child.now) Q (length parent.new) x
         sample.now parent.new count.new up.new) ×
         Noted (length up.old) up.old up.new touched.old listed.old touched.new
         listed.new 0 result.touched }
 {
     let a = end_edges(
-        time, sample, parent, count, sum, low, up, touched, listed, left, right, above, child, bl,
-        br, i, j, 0, x,
+        time, sample, parent, count, sum, low, up, touched, listed, edges, bl, br, i, j, 0, x,
     );
-    let ended = a.ended;
-    let k = a.touched;
     begin_edges(
-        time, sample, parent, count, sum, low, up, touched, listed, left, right, above, child, bl,
-        br, i, ended, k, x,
+        time, sample, parent, count, sum, low, up, touched, listed, edges, bl, br, i, a.ended,
+        a.touched, x,
     )
 }
 
@@ -204,26 +189,14 @@ fn next_key(key: &[u32], b: &[u32], i: usize, most: u32) -> u32
         return most;
     }
     let e = b[i];
-    let v = key[e as usize];
-    if v < most {
-        return v;
-    }
-    most
+    key[e as usize].min(most)
 }
 
 // The next position where an edge begins or ends, or len.
-pub fn next_change(
-    left: &[u32],
-    right: &[u32],
-    bl: &[u32],
-    br: &[u32],
-    i: usize,
-    j: usize,
-    len: u32,
-) -> u32
-    requires { Index left.now bl.now (length left.now) × Index right.now br.now (length right.now) }
-    ensures { result ≡ next_change left.now right.now bl.now br.now i j len }
+pub fn next_change(edges: EdgeColumns, bl: &[u32], br: &[u32], i: usize, j: usize, len: u32) -> u32
+    requires { Index edges.left.now bl.now (length edges.left.now) × Index edges.right.now br.now (length edges.right.now) }
+    ensures { result ≡ next_change edges.entry.left.now edges.entry.right.now bl.now br.now i j len }
 {
-    let y = next_key(left, bl, i, len);
-    next_key(right, br, j, y)
+    let y = next_key(edges.left, bl, i, len);
+    next_key(edges.right, br, j, y)
 }

@@ -1,37 +1,16 @@
 // The columns at one position: the start, with no edge, and the nearest standing row below.
-ghost use Rattle.std.specs.Prelude.{◌≡◌, List, ℕ, ◌<◌, length, get_or};
+ghost use Rattle.std.specs.Prelude.{◌≡◌, List, ℕ, ◌<◌, length, IfSome};
 ghost use Rattle.meaning.specs.Rows.{EdgeColumns};
-ghost use Rattle.bridge.specs.Parents.{parent_row, code};
-ghost use Rattle.mend.specs.Right.{W, Shape};
+ghost use Rattle.bridge.specs.Parents.{parent_row};
+ghost use Rattle.mend.specs.Right.{Shape};
 ghost use Rattle.mend.specs.Line.{par_of};
-ghost use Rattle.mend.specs.Kept.{Mended, LowOk, Filled};
+ghost use Rattle.mend.specs.Kept.{Mended, LowOk};
 ghost use Rattle.tree.specs.Sweep.{Plan, Swept};
-ghost use Rattle.tree.specs.TreeAt.{low_at, Flags};
+ghost use Rattle.tree.specs.TreeAt.{low_at, row_given, Flags};
 
 use super::NONE;
 use mend::alive;
 use order::iota;
-
-// Every cell is v.
-fn fill(column: &mut [u32], v: u32)
-    ensures { Filled column.new (length column.old) v }
-{
-    let mut i = 0;
-    while i < column.len() {
-        column[i] = v;
-        i += 1;
-    }
-}
-
-// Every time is below 2^32, as its type says; the answer is the first.
-fn first_time(time: &[u32]) -> u32
-    ensures { (u : ℕ) → u < length time.now → get_or time.now u 0 < W }
-{
-    if time.len() == 0 {
-        return 0;
-    }
-    time[0]
-}
 
 // The columns with no edge: a sweep starts so, before every edge. A live row is then a sample, and leads to itself.
 pub fn start(
@@ -51,15 +30,14 @@ pub fn start(
         Swept time.now sample.now parent.new count.new sum.new low.new up.new
         l r pa ch bl br 0 0 0 }
 {
-    first_time(time);
-    fill(parent, NONE);
-    fill(count, 0);
-    fill(sum, 0);
+    parent.fill(NONE);
+    count.fill(0);
+    sum.fill(0);
     iota(low);
-    fill(up, NONE);
+    up.fill(NONE);
 }
 
-// The nearest standing row at or below u, or none where u is not reached.
+// The nearest standing row at or below u, where u is reached.
 pub fn low_at(
     time: &[u32],
     sample: &[u8],
@@ -68,17 +46,18 @@ pub fn low_at(
     sum: &[u32],
     low: &[u32],
     u: u32,
-) -> u32
+) -> Option<u32>
     requires { Mended time.now sample.now parent.now count.now sum.now ×
         LowOk sample.now parent.now count.now low.now ×
         (u < length parent.now) }
-    ensures { (E : EdgeColumns) (Q : List ℕ) (x : ℕ) →
+    ensures row { IfSome result (λ w. w < length parent.now) }
+    ensures low { (E : EdgeColumns) (Q : List ℕ) (x : ℕ) →
         Flags sample.now Q (length parent.now) →
         par_of parent.now ≡ parent_row E x →
-        result ≡ code (low_at E Q (length parent.now) x u) }
+        result ≡ row_given (low_at E Q (length parent.now) x u) }
 {
     if alive(sample, count, u) {
-        return low[u as usize];
+        return Some(low[u as usize]);
     }
-    NONE
+    None
 }

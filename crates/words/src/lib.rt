@@ -7,7 +7,7 @@ ghost use Rattle.std.specs.Prelude.{◌≡◌, [], ◌∷◌, ℕ, ◌+◌, ◌-
 ghost use Rattle.meaning.specs.Words.{rows};
 ghost use Rattle.words.specs.Columns.{column, Only, edge, Aside};
 
-// The nodes' columns, by number.
+// The nodes' columns, by number, which an enum would not tell: three of them have no name.
 #[derive(Drop)]
 pub struct NodeColumn {
     pub number: usize,
@@ -57,7 +57,7 @@ impl NodeColumn {
     pub const ALL: usize = 16;
 }
 
-// The edges' columns, by number.
+// The edges' columns, by number, which an enum would not tell: one of them has two names.
 #[derive(Drop)]
 pub struct EdgeColumn {
     pub number: usize,
@@ -86,7 +86,8 @@ impl EdgeColumn {
     pub const ALL: usize = 6;
 }
 
-// Every row of the nodes' column k gets v.
+// Every row of the nodes' column k gets v. The five functions differ in the column and in what is written, and a closure for that asks more
+// clauses than it spares.
 pub fn fill(words: &mut [u32], n: usize, k: usize, v: u32)
     requires { (k < 16) × (16 * n ≤ length words.old) }
     ensures { (column k words.new n ≡ rows (λ u. v) n) × Only (k ∷ []) n words.old words.new }

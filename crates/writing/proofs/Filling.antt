@@ -5,14 +5,15 @@ use mathlib.Core.List.{List, [], ◌∷◌, ◌++◌, map}
 use Prim.Native.Nat.{ℕ, zero, suc, ◌+◌, ◌<◌, ◌≤◌}
 use native.Mathlib.Omega.{arith}
 use lib.Dec.{ltb}
-use lib.ListN.{length, take, drop, set, length-set, length-map}
-use lib.Seq.{length-take-le, get_or-take, get_or-drop, get_or-append-add, set-get_or}
+use lib.ListN.{length, take, drop, set, get_or, length-set, length-map}
+use Rattle.std.proofs.lemmas.List.{map-append}
+use lib.Seq.{length-take-le, take_all, get_or-take, get_or-drop, get_or-append-add, set-get_or}
 use borrow.Author.Tests.{lt-ltb, le-ltb}
 use Rattle.meaning.specs.Words.{at}
 use Rattle.meaning.specs.Answer.{put}
 use Rattle.laws.specs.Members.{at_map}
-use Rattle.keeping.specs.Fronts.{put_none}
-use Rattle.keeping.proofs.Cells.{front_more, front_all}
+use Rattle.keeping.specs.Fronts.{put_none, put_more}
+use Rattle.keeping.proofs.Cells.{front_more, front_all, take_more}
 use Rattle.order.specs.Order.{Inside}
 use Rattle.writing.specs.Renamed.{renamed}
 
@@ -68,6 +69,36 @@ module _ (f : ℕ → ℕ) (rows : List ℕ) (k : ℕ) (h : k ≤ length rows) w
 -- the row at i is one of those
 pub row_inside : (n : ℕ) (rows : List ℕ) (k i : ℕ) → k ≤ length rows → Inside n (take k rows) → i < k → at rows i < n
 row_inside n rows k i h s l = omega (arith, s.row i (omega (arith, length-take-le k rows h)), get_or-take k rows i 0 l)
+
+-- ---- the cells of a column at the first rows of a list, of whatever they are
+
+-- the cells at the first i rows stand at the front of a column that was old
+pub record Gathered {A : Type 0} (src : List A) (rows : List ℕ) (old out : List A) (i : ℕ) : Type 0 where
+  pub long : length out ≡ length old
+  pub front : (other : A) → out ≡ put (map (λ r. get_or src r other) (take i rows)) old
+
+module _ {A : Type 0} (src : List A) (rows : List ℕ) (old : List A) where
+  pub gather_start : Gathered src rows old old 0
+  gather_start = record { long = refl; front = λ other. put_none old }
+
+  pub gather_next : (out : List A) (i r : ℕ) (v : A) → r ≡ at rows i → i < length rows → i < length old → ((other : A) → v ≡ get_or src r other) → Gathered src rows old out i → Gathered src rows old (set out i v) (i + 1)
+  gather_next out i r v e h k q g = record {
+    long = length-set out i v ∙ g.long;
+    front = λ other.
+        let f : ℕ → A = λ r. get_or src r other in
+        let n : length (map f (take i rows)) ≡ i = length-map (take i rows) f ∙ length-take-le i rows (omega arith) in
+        let m : map f (take i rows) ++ (v ∷ []) ≡ map f (take (i + 1) rows) =
+            ap (λ x. map f (take i rows) ++ (x ∷ [])) (q other ∙ ap f e)
+            ∙ sym (map-append f (take i rows) (at rows i ∷ []))
+            ∙ ap (map f) (take_more rows i (at rows i) h refl) in
+        ap (λ z. set z i v) (g.front other)
+        ∙ ap (λ j. set (put (map f (take i rows)) old) j v) (sym n)
+        ∙ put_more (map f (take i rows)) old v (omega (arith, n))
+        ∙ ap (λ z. put z old) m;
+  }
+
+  pub gather_end : (out : List A) (i : ℕ) → length rows ≤ i → Gathered src rows old out i → (other : A) → out ≡ put (map (λ r. get_or src r other) rows) old
+  gather_end out i h g other = g.front other ∙ ap (λ l. put (map (λ r. get_or src r other) l) old) (take_all i rows h)
 
 -- ---- a row by its new name
 

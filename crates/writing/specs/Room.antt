@@ -4,38 +4,11 @@ use Rattle.meaning.specs.Words.{or}
 use Rattle.meaning.specs.Rows.{Tables}
 use Rattle.meaning.specs.Answer.{Answer, answer, done, limits, refuse, room, lacks}
 use Rattle.meaning.specs.Lent.{fit_then}
-
--- the rows of a result in tables 1 to 4 and in the node map
-pub record Needs : Type 0 where
-  pub nodes : ℕ
-  pub edges : ℕ
-  pub sites : ℕ
-  pub mutations : ℕ
-  pub rows : ℕ
-
--- the lengths of the columns lent
-pub record Lent : Type 0 where
-  pub time : ℕ
-  pub birth : ℕ
-  pub population : ℕ
-  pub left : ℕ
-  pub right : ℕ
-  pub parent : ℕ
-  pub child : ℕ
-  pub position : ℕ
-  pub ancestral : ℕ
-  pub site : ℕ
-  pub node : ℕ
-  pub derived : ℕ
-  pub nodemap : ℕ
-
--- 13 with a table, or 0
-unfoldable pub room_of : ℕ → Answer
-room_of zero = done
-room_of (suc t) = answer 13 (suc t)
+use Rattle.writing.specs.declared.Needs.{Needs}
+use Rattle.writing.specs.declared.Lengths.{Lengths}
 
 -- 13 with the lowest table that passes its limit or its room
-unfoldable pub room_answer : Needs → Lent → Answer
+unfoldable pub room_answer : Needs → Lengths → Answer
 unfolding refuse
 room_answer n l =
     refuse (or (ltb limits.nodes n.nodes) (ltb (min l.time (min l.birth l.population)) n.nodes)) 13 1
@@ -48,7 +21,7 @@ room_answer n l =
 abbrev pub needs_of : Tables → List ℕ → Needs
 needs_of new new_map = record { nodes = length new.nodes.time; edges = length new.edges.left; sites = length new.sites.position; mutations = length new.muts.site; rows = length new_map }
 
-abbrev pub lent_by : Tables → List ℕ → Lent
+abbrev pub lent_by : Tables → List ℕ → Lengths
 lent_by out out_map = record {
   time = length out.nodes.time;
   birth = length out.nodes.birth;

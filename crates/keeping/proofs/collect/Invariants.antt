@@ -5,7 +5,5 @@ use Rattle.keeping.proofs.Collecting.{Gathered}
 use Rattle.keeping.proofs.collect.Given as goal
 
 abbrev pub invariant-loop-u : goal.invariant-loop-u
-invariant-loop-u l = (l.u ≤ length l.stood) × Gathered l.stood l.sample l.initial.out l.out l.k l.u
+invariant-loop-u l = Gathered l.stood l.sample l.initial.out l.out l.k l.u
 
-abbrev pub decreases-loop-u : goal.decreases-loop-u
-decreases-loop-u l = length l.stood - l.u

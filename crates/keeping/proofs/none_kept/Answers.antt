@@ -1,13 +1,6 @@
--- `keeping::none_kept` meets its contract: each cell passed holds the value.
-use Prim.Native.Nat.{◌-◌}
-use Rattle.keeping.proofs.Cells.{next_cell, cells_rows}
-use Rattle.meaning.specs.Clean.{no_row}
-use native.Mathlib.Omega.{arith}
-use borrow.Author.Rules.{rules}
+-- `keeping::none_kept` meets its contract: each cell holds the value.
+use Rattle.keeping.proofs.Cells.{filled_rows}
 use Rattle.keeping.proofs.none_kept.Goals as goal
 
-pub loop-i-preserved : goal.loop-i-preserved
-loop-i-preserved c = (search rules, search rules, next_cell (λ u. no_row) c.loop-i.nodemap c.loop-i.i (omega arith) c.loop-i.invariant.2)
-
 pub returns : goal.returns
-returns c = cells_rows (λ u. no_row) _ _ c.loop-i.invariant.1 (λ k h. c.loop-i.invariant.2 k (omega arith))
+returns c = filled_rows _ _ (c.fill.ensures.after (λ y e. e))

@@ -6,7 +6,5 @@ use Rattle.keeping.proofs.Placing.{PlacedFrom}
 use Rattle.keeping.proofs.place.Given as goal
 
 abbrev pub invariant-loop-i : goal.invariant-loop-i
-invariant-loop-i l = (l.i ≤ l.n) × (length l.nodemap ≡ length l.initial.nodemap) × PlacedFrom (take l.n l.kept) l.first l.initial.nodemap l.i l.nodemap
+invariant-loop-i l = (length l.nodemap ≡ length l.initial.nodemap) × PlacedFrom (take l.n l.kept) l.first l.initial.nodemap l.i l.nodemap
 
-abbrev pub decreases-loop-i : goal.decreases-loop-i
-decreases-loop-i l = l.i

@@ -1,5 +1,6 @@
 -- `listing::list` meets its contract: the pieces of the listing, one after the other, for which the room suffices. Assumes nothing.
-use mathlib.Core.Path.{sym, ap}
+use Rattle.std.proofs.Common.{rules}
+use mathlib.Core.Path.{sym, ap, ◌∙◌}
 use mathlib.Core.List.{List, [], ◌∷◌, ◌++◌}
 use Prim.Native.Nat.{ℕ, ◌+◌, ◌<◌, ◌≤◌}
 use lib.ListN.{length}
@@ -7,7 +8,7 @@ use Rattle.meaning.specs.Rows.{Tables}
 use Rattle.meaning.specs.Printed.{numbers, lines, node_line, edge_line, site_line, mutation_line, map_line}
 use Rattle.listing.specs.Written.{room}
 use Rattle.listing.proofs.Bounds.{Narrow, from_nodes, from_edges, from_sites, from_mutations, listed_pieces, listed_most}
-use Rattle.listing.proofs.Writing.{wrote_then, wrote_as, wrote_front, room_first, room_then}
+use Rattle.listing.proofs.Writing.{wrote_then, wrote_as, wrote_front, printed_on, room_first, room_then}
 use native.Mathlib.Omega.{arith}
 use Rattle.listing.proofs.list.Goals as goal
 
@@ -15,63 +16,61 @@ use Rattle.listing.proofs.list.Goals as goal
 room_whole : (len : ℕ) (T : Tables) (map : List ℕ) (out : ℕ) → len < 4294967296 → Narrow T map → length T.nodes.time < 18446744073709551616 → length map < 18446744073709551616 → room (length T.nodes.time) (length T.edges.left) (length T.sites.position) (length T.muts.site) (length map) ≤ out → 0 + length (numbers 81 (len ∷ []) ++ from_nodes T map) ≤ out
 room_whole len T map out h n a b l = omega (arith, ap length (listed_pieces len T map), listed_most len T map h n a b, l)
 
-pub one-a-requires : goal.one-a-requires
-one-a-requires c = let T : Tables = record { nodes = record { time = c.args.time.now; birth = c.args.birth.now; population = c.args.population.now }; edges = record { left = c.args.left.now; right = c.args.right.now; parent = c.args.parent.now; child = c.args.child.now }; sites = record { position = c.args.position.now; ancestral = c.args.ancestral.now }; muts = record { site = c.args.site.now; node = c.args.node.now; derived = c.args.derived.now } } in
+pub line-requires : goal.line-requires
+line-requires c = let T : Tables = record { nodes = record { time = c.args.time.now; birth = c.args.birth.now; population = c.args.population.now }; edges = record { left = c.args.left.now; right = c.args.right.now; parent = c.args.parent.now; child = c.args.child.now }; sites = record { position = c.args.position.now; ancestral = c.args.ancestral.now }; muts = record { site = c.args.site.now; node = c.args.node.now; derived = c.args.derived.now } } in
     let map : List ℕ = c.args.map.now in
     let n : Narrow T map = record { time = λ i. omega (arith, c.type_inv.time i); birth = λ i. omega (arith, c.type_inv.birth i); population = λ i. omega (arith, c.type_inv.population i); left = λ i. omega (arith, c.type_inv.left i); right = λ i. omega (arith, c.type_inv.right i); parent = λ i. omega (arith, c.type_inv.parent i); child = λ i. omega (arith, c.type_inv.child i); position = λ i. omega (arith, c.type_inv.position i); ancestral = λ i. omega (arith, c.type_inv.ancestral i); site = λ i. omega (arith, c.type_inv.site i); node = λ i. omega (arith, c.type_inv.node i); derived = λ i. omega (arith, c.type_inv.derived i); row = λ i. omega (arith, c.type_inv.map i) } in
     let w : 0 + length (numbers 81 (c.args.len ∷ []) ++ from_nodes T map) ≤ length c.args.out.now = room_whole c.args.len T map (length c.args.out.now) (omega (arith, c.ranges.len)) n (omega arith) (omega arith) c.requires in
     room_first 0 (numbers 81 (c.args.len ∷ [])) (from_nodes T map) c.args.out.now w
 
-pub nodes-b-requires : goal.nodes-b-requires
-nodes-b-requires c = let T : Tables = record { nodes = record { time = c.args.time.now; birth = c.args.birth.now; population = c.args.population.now }; edges = record { left = c.args.left.now; right = c.args.right.now; parent = c.args.parent.now; child = c.args.child.now }; sites = record { position = c.args.position.now; ancestral = c.args.ancestral.now }; muts = record { site = c.args.site.now; node = c.args.node.now; derived = c.args.derived.now } } in
+pub nodes-requires : goal.nodes-requires
+nodes-requires c = let T : Tables = record { nodes = record { time = c.args.time.now; birth = c.args.birth.now; population = c.args.population.now }; edges = record { left = c.args.left.now; right = c.args.right.now; parent = c.args.parent.now; child = c.args.child.now }; sites = record { position = c.args.position.now; ancestral = c.args.ancestral.now }; muts = record { site = c.args.site.now; node = c.args.node.now; derived = c.args.derived.now } } in
     let map : List ℕ = c.args.map.now in
     let n : Narrow T map = record { time = λ i. omega (arith, c.type_inv.time i); birth = λ i. omega (arith, c.type_inv.birth i); population = λ i. omega (arith, c.type_inv.population i); left = λ i. omega (arith, c.type_inv.left i); right = λ i. omega (arith, c.type_inv.right i); parent = λ i. omega (arith, c.type_inv.parent i); child = λ i. omega (arith, c.type_inv.child i); position = λ i. omega (arith, c.type_inv.position i); ancestral = λ i. omega (arith, c.type_inv.ancestral i); site = λ i. omega (arith, c.type_inv.site i); node = λ i. omega (arith, c.type_inv.node i); derived = λ i. omega (arith, c.type_inv.derived i); row = λ i. omega (arith, c.type_inv.map i) } in
     let w : 0 + length (numbers 81 (c.args.len ∷ []) ++ from_nodes T map) ≤ length c.args.out.now = room_whole c.args.len T map (length c.args.out.now) (omega (arith, c.ranges.len)) n (omega arith) (omega arith) c.requires in
-    let a : c.one-a.result + length (from_nodes T map) ≤ length c.one-a.new.out = room_then (from_nodes T map) c.one-a.ensures w in
-    room_first c.one-a.result (lines (node_line T.nodes) (length T.nodes.time)) (from_edges T map) c.one-a.new.out a
+    let a : c.line.new.self.len + length (from_nodes T map) ≤ length c.line.new.self.out.now = room_then (from_nodes T map) c.line.ensures.wrote w in
+    room_first c.line.new.self.len (lines (node_line T.nodes) (length T.nodes.time)) (from_edges T map) c.line.new.self.out.now a
 
-pub edges-c-requires : goal.edges-c-requires
-edges-c-requires c = let T : Tables = record { nodes = record { time = c.args.time.now; birth = c.args.birth.now; population = c.args.population.now }; edges = record { left = c.args.left.now; right = c.args.right.now; parent = c.args.parent.now; child = c.args.child.now }; sites = record { position = c.args.position.now; ancestral = c.args.ancestral.now }; muts = record { site = c.args.site.now; node = c.args.node.now; derived = c.args.derived.now } } in
+pub edges-requires : goal.edges-requires
+edges-requires c = let T : Tables = record { nodes = record { time = c.args.time.now; birth = c.args.birth.now; population = c.args.population.now }; edges = record { left = c.args.left.now; right = c.args.right.now; parent = c.args.parent.now; child = c.args.child.now }; sites = record { position = c.args.position.now; ancestral = c.args.ancestral.now }; muts = record { site = c.args.site.now; node = c.args.node.now; derived = c.args.derived.now } } in
     let map : List ℕ = c.args.map.now in
     let n : Narrow T map = record { time = λ i. omega (arith, c.type_inv.time i); birth = λ i. omega (arith, c.type_inv.birth i); population = λ i. omega (arith, c.type_inv.population i); left = λ i. omega (arith, c.type_inv.left i); right = λ i. omega (arith, c.type_inv.right i); parent = λ i. omega (arith, c.type_inv.parent i); child = λ i. omega (arith, c.type_inv.child i); position = λ i. omega (arith, c.type_inv.position i); ancestral = λ i. omega (arith, c.type_inv.ancestral i); site = λ i. omega (arith, c.type_inv.site i); node = λ i. omega (arith, c.type_inv.node i); derived = λ i. omega (arith, c.type_inv.derived i); row = λ i. omega (arith, c.type_inv.map i) } in
     let w : 0 + length (numbers 81 (c.args.len ∷ []) ++ from_nodes T map) ≤ length c.args.out.now = room_whole c.args.len T map (length c.args.out.now) (omega (arith, c.ranges.len)) n (omega arith) (omega arith) c.requires in
-    let a : c.one-a.result + length (from_nodes T map) ≤ length c.one-a.new.out = room_then (from_nodes T map) c.one-a.ensures w in
-    let b : c.nodes-b.result + length (from_edges T map) ≤ length c.nodes-b.new.out = room_then (from_edges T map) c.nodes-b.ensures a in
-    room_first c.nodes-b.result (lines (edge_line T.edges) (length T.edges.left)) (from_sites T map) c.nodes-b.new.out b
+    let a : c.line.new.self.len + length (from_nodes T map) ≤ length c.line.new.self.out.now = room_then (from_nodes T map) c.line.ensures.wrote w in
+    let b : c.nodes.new.page.len + length (from_edges T map) ≤ length c.nodes.new.page.out.now = room_then (from_edges T map) c.nodes.ensures.wrote a in
+    room_first c.nodes.new.page.len (lines (edge_line T.edges) (length T.edges.left)) (from_sites T map) c.nodes.new.page.out.now b
 
-pub sites-d-requires : goal.sites-d-requires
-sites-d-requires c = let T : Tables = record { nodes = record { time = c.args.time.now; birth = c.args.birth.now; population = c.args.population.now }; edges = record { left = c.args.left.now; right = c.args.right.now; parent = c.args.parent.now; child = c.args.child.now }; sites = record { position = c.args.position.now; ancestral = c.args.ancestral.now }; muts = record { site = c.args.site.now; node = c.args.node.now; derived = c.args.derived.now } } in
+pub sites-requires : goal.sites-requires
+sites-requires c = let T : Tables = record { nodes = record { time = c.args.time.now; birth = c.args.birth.now; population = c.args.population.now }; edges = record { left = c.args.left.now; right = c.args.right.now; parent = c.args.parent.now; child = c.args.child.now }; sites = record { position = c.args.position.now; ancestral = c.args.ancestral.now }; muts = record { site = c.args.site.now; node = c.args.node.now; derived = c.args.derived.now } } in
     let map : List ℕ = c.args.map.now in
     let n : Narrow T map = record { time = λ i. omega (arith, c.type_inv.time i); birth = λ i. omega (arith, c.type_inv.birth i); population = λ i. omega (arith, c.type_inv.population i); left = λ i. omega (arith, c.type_inv.left i); right = λ i. omega (arith, c.type_inv.right i); parent = λ i. omega (arith, c.type_inv.parent i); child = λ i. omega (arith, c.type_inv.child i); position = λ i. omega (arith, c.type_inv.position i); ancestral = λ i. omega (arith, c.type_inv.ancestral i); site = λ i. omega (arith, c.type_inv.site i); node = λ i. omega (arith, c.type_inv.node i); derived = λ i. omega (arith, c.type_inv.derived i); row = λ i. omega (arith, c.type_inv.map i) } in
     let w : 0 + length (numbers 81 (c.args.len ∷ []) ++ from_nodes T map) ≤ length c.args.out.now = room_whole c.args.len T map (length c.args.out.now) (omega (arith, c.ranges.len)) n (omega arith) (omega arith) c.requires in
-    let a : c.one-a.result + length (from_nodes T map) ≤ length c.one-a.new.out = room_then (from_nodes T map) c.one-a.ensures w in
-    let b : c.nodes-b.result + length (from_edges T map) ≤ length c.nodes-b.new.out = room_then (from_edges T map) c.nodes-b.ensures a in
-    let d : c.edges-c.result + length (from_sites T map) ≤ length c.edges-c.new.out = room_then (from_sites T map) c.edges-c.ensures b in
-    room_first c.edges-c.result (lines (site_line T.sites) (length T.sites.position)) (from_mutations T map) c.edges-c.new.out d
+    let a : c.line.new.self.len + length (from_nodes T map) ≤ length c.line.new.self.out.now = room_then (from_nodes T map) c.line.ensures.wrote w in
+    let b : c.nodes.new.page.len + length (from_edges T map) ≤ length c.nodes.new.page.out.now = room_then (from_edges T map) c.nodes.ensures.wrote a in
+    let d : c.edges.new.page.len + length (from_sites T map) ≤ length c.edges.new.page.out.now = room_then (from_sites T map) c.edges.ensures.wrote b in
+    room_first c.edges.new.page.len (lines (site_line T.sites) (length T.sites.position)) (from_mutations T map) c.edges.new.page.out.now d
 
-pub mutations-e-requires : goal.mutations-e-requires
-mutations-e-requires c = let T : Tables = record { nodes = record { time = c.args.time.now; birth = c.args.birth.now; population = c.args.population.now }; edges = record { left = c.args.left.now; right = c.args.right.now; parent = c.args.parent.now; child = c.args.child.now }; sites = record { position = c.args.position.now; ancestral = c.args.ancestral.now }; muts = record { site = c.args.site.now; node = c.args.node.now; derived = c.args.derived.now } } in
+pub mutations-requires : goal.mutations-requires
+mutations-requires c = let T : Tables = record { nodes = record { time = c.args.time.now; birth = c.args.birth.now; population = c.args.population.now }; edges = record { left = c.args.left.now; right = c.args.right.now; parent = c.args.parent.now; child = c.args.child.now }; sites = record { position = c.args.position.now; ancestral = c.args.ancestral.now }; muts = record { site = c.args.site.now; node = c.args.node.now; derived = c.args.derived.now } } in
     let map : List ℕ = c.args.map.now in
     let n : Narrow T map = record { time = λ i. omega (arith, c.type_inv.time i); birth = λ i. omega (arith, c.type_inv.birth i); population = λ i. omega (arith, c.type_inv.population i); left = λ i. omega (arith, c.type_inv.left i); right = λ i. omega (arith, c.type_inv.right i); parent = λ i. omega (arith, c.type_inv.parent i); child = λ i. omega (arith, c.type_inv.child i); position = λ i. omega (arith, c.type_inv.position i); ancestral = λ i. omega (arith, c.type_inv.ancestral i); site = λ i. omega (arith, c.type_inv.site i); node = λ i. omega (arith, c.type_inv.node i); derived = λ i. omega (arith, c.type_inv.derived i); row = λ i. omega (arith, c.type_inv.map i) } in
     let w : 0 + length (numbers 81 (c.args.len ∷ []) ++ from_nodes T map) ≤ length c.args.out.now = room_whole c.args.len T map (length c.args.out.now) (omega (arith, c.ranges.len)) n (omega arith) (omega arith) c.requires in
-    let a : c.one-a.result + length (from_nodes T map) ≤ length c.one-a.new.out = room_then (from_nodes T map) c.one-a.ensures w in
-    let b : c.nodes-b.result + length (from_edges T map) ≤ length c.nodes-b.new.out = room_then (from_edges T map) c.nodes-b.ensures a in
-    let d : c.edges-c.result + length (from_sites T map) ≤ length c.edges-c.new.out = room_then (from_sites T map) c.edges-c.ensures b in
-    let e : c.sites-d.result + length (from_mutations T map) ≤ length c.sites-d.new.out = room_then (from_mutations T map) c.sites-d.ensures d in
-    room_first c.sites-d.result (lines (mutation_line T.muts) (length T.muts.site)) (lines (map_line map) (length map)) c.sites-d.new.out e
+    let a : c.line.new.self.len + length (from_nodes T map) ≤ length c.line.new.self.out.now = room_then (from_nodes T map) c.line.ensures.wrote w in
+    let b : c.nodes.new.page.len + length (from_edges T map) ≤ length c.nodes.new.page.out.now = room_then (from_edges T map) c.nodes.ensures.wrote a in
+    let d : c.edges.new.page.len + length (from_sites T map) ≤ length c.edges.new.page.out.now = room_then (from_sites T map) c.edges.ensures.wrote b in
+    let e : c.sites.new.page.len + length (from_mutations T map) ≤ length c.sites.new.page.out.now = room_then (from_mutations T map) c.sites.ensures.wrote d in
+    room_first c.sites.new.page.len (lines (mutation_line T.muts) (length T.muts.site)) (lines (map_line map) (length map)) c.sites.new.page.out.now e
 
 pub mapping-requires : goal.mapping-requires
 mapping-requires c = let T : Tables = record { nodes = record { time = c.args.time.now; birth = c.args.birth.now; population = c.args.population.now }; edges = record { left = c.args.left.now; right = c.args.right.now; parent = c.args.parent.now; child = c.args.child.now }; sites = record { position = c.args.position.now; ancestral = c.args.ancestral.now }; muts = record { site = c.args.site.now; node = c.args.node.now; derived = c.args.derived.now } } in
     let map : List ℕ = c.args.map.now in
     let n : Narrow T map = record { time = λ i. omega (arith, c.type_inv.time i); birth = λ i. omega (arith, c.type_inv.birth i); population = λ i. omega (arith, c.type_inv.population i); left = λ i. omega (arith, c.type_inv.left i); right = λ i. omega (arith, c.type_inv.right i); parent = λ i. omega (arith, c.type_inv.parent i); child = λ i. omega (arith, c.type_inv.child i); position = λ i. omega (arith, c.type_inv.position i); ancestral = λ i. omega (arith, c.type_inv.ancestral i); site = λ i. omega (arith, c.type_inv.site i); node = λ i. omega (arith, c.type_inv.node i); derived = λ i. omega (arith, c.type_inv.derived i); row = λ i. omega (arith, c.type_inv.map i) } in
     let w : 0 + length (numbers 81 (c.args.len ∷ []) ++ from_nodes T map) ≤ length c.args.out.now = room_whole c.args.len T map (length c.args.out.now) (omega (arith, c.ranges.len)) n (omega arith) (omega arith) c.requires in
-    let a : c.one-a.result + length (from_nodes T map) ≤ length c.one-a.new.out = room_then (from_nodes T map) c.one-a.ensures w in
-    let b : c.nodes-b.result + length (from_edges T map) ≤ length c.nodes-b.new.out = room_then (from_edges T map) c.nodes-b.ensures a in
-    let d : c.edges-c.result + length (from_sites T map) ≤ length c.edges-c.new.out = room_then (from_sites T map) c.edges-c.ensures b in
-    let e : c.sites-d.result + length (from_mutations T map) ≤ length c.sites-d.new.out = room_then (from_mutations T map) c.sites-d.ensures d in
-    room_then (lines (map_line map) (length map)) c.mutations-e.ensures e
+    let a : c.line.new.self.len + length (from_nodes T map) ≤ length c.line.new.self.out.now = room_then (from_nodes T map) c.line.ensures.wrote w in
+    let b : c.nodes.new.page.len + length (from_edges T map) ≤ length c.nodes.new.page.out.now = room_then (from_edges T map) c.nodes.ensures.wrote a in
+    let d : c.edges.new.page.len + length (from_sites T map) ≤ length c.edges.new.page.out.now = room_then (from_sites T map) c.edges.ensures.wrote b in
+    let e : c.sites.new.page.len + length (from_mutations T map) ≤ length c.sites.new.page.out.now = room_then (from_mutations T map) c.sites.ensures.wrote d in
+    room_then (lines (map_line map) (length map)) c.mutations.ensures.wrote e
 
 pub returns : goal.returns
-returns c = let T : Tables = record { nodes = record { time = c.args.time.now; birth = c.args.birth.now; population = c.args.population.now }; edges = record { left = c.args.left.now; right = c.args.right.now; parent = c.args.parent.now; child = c.args.child.now }; sites = record { position = c.args.position.now; ancestral = c.args.ancestral.now }; muts = record { site = c.args.site.now; node = c.args.node.now; derived = c.args.derived.now } } in
-    let map : List ℕ = c.args.map.now in
-    wrote_front (wrote_as (sym (listed_pieces c.args.len T map)) (wrote_then c.one-a.ensures (wrote_then c.nodes-b.ensures (wrote_then c.edges-c.ensures (wrote_then c.sites-d.ensures (wrote_then c.mutations-e.ensures c.mapping.ensures))))))
+returns c = let n : _ = sym (c.mapping.ensures.same ∙ c.mutations.ensures.same ∙ c.sites.ensures.same ∙ c.edges.ensures.same ∙ c.nodes.ensures.same ∙ c.line.ensures.same) in printed_on (wrote_front (wrote_as (sym (listed_pieces c.args.len (record { nodes = record { time = c.args.time.now; birth = c.args.birth.now; population = c.args.population.now }; edges = record { left = c.args.left.now; right = c.args.right.now; parent = c.args.parent.now; child = c.args.child.now }; sites = record { position = c.args.position.now; ancestral = c.args.ancestral.now }; muts = record { site = c.args.site.now; node = c.args.node.now; derived = c.args.derived.now } }) c.args.map.now)) (wrote_then c.line.ensures.wrote (wrote_then c.nodes.ensures.wrote (wrote_then c.edges.ensures.wrote (wrote_then c.sites.ensures.wrote (wrote_then c.mutations.ensures.wrote c.mapping.ensures.wrote))))))) (search rules)

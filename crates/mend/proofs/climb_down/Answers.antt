@@ -28,12 +28,6 @@ returns-then-alive c = let inv : _ = c.loop-q.invariant in
       lost_stop _ _ _ _ _ _ _ _ m hc (some _ _ _ _ _ _ _ inv.0 hq inv.3) c.take.ensures.0 inv.4 hq (inv.5 m) inv.6 l,
     )
 
-pub overflow_cast-q : goal.overflow_cast-q
-overflow_cast-q c = let hq : _ = c.loop-q.invariant.1 c.loop-q-test.true in let r : _ = c.loop-q.invariant.0.rows in search rules
-
-pub offset_bounds-parent-q : goal.offset_bounds-parent-q
-offset_bounds-parent-q c = let hq : _ = c.loop-q.invariant.1 c.loop-q-test.true in let r : _ = c.loop-q.invariant.0.rows in search rules
-
 pub bounds-parent-q : goal.bounds-parent-q
 bounds-parent-q c = let hq : _ = c.loop-q.invariant.1 c.loop-q-test.true in let r : _ = c.loop-q.invariant.0.rows in search rules
 

@@ -13,9 +13,6 @@ alive-was-requires c = let hq : _ = c.loop-q.invariant.1 c.loop-q-test.true in (
 pub bump-requires : goal.bump-requires
 bump-requires c = let hq : _ = c.loop-q.invariant.1 c.loop-q-test.true in (omega (arith, hq, c.loop-q.invariant.0.counts), omega (arith, hq, c.loop-q.invariant.0.sums), room _ _ _ _ _ _ _ c.loop-q.invariant.0 hq c.loop-q.invariant.2)
 
-pub shape_of-low-then-was : goal.shape_of-low-then-was
-shape_of-low-then-was c = c.loop-q.invariant.4 ∙ sym c.requires.1
-
 pub returns-then-was : goal.returns-then-was
 returns-then-was c = let inv : _ = c.loop-q.invariant in
     let hq : _ = inv.1 c.loop-q-test.true in
@@ -24,20 +21,8 @@ returns-then-was c = let inv : _ = c.loop-q.invariant in
       climb_stop _ _ _ _ _ _ _ _ c.loop-q.low _ _ _ _ _ c.requires.2 inv.3 hq inv.0.counts c.loop-q-test.true c.bump.ensures.0 l,
     )
 
-pub overflow_cast-low : goal.overflow_cast-low
-overflow_cast-low c = let hq : _ = c.loop-q.invariant.1 c.loop-q-test.true in let r : _ = c.loop-q.invariant.0.rows in search rules
-
-pub offset_bounds-low-q : goal.offset_bounds-low-q
-offset_bounds-low-q c = let hq : _ = c.loop-q.invariant.1 c.loop-q-test.true in let r : _ = c.loop-q.invariant.0.rows in search rules
-
 pub bounds-low-q : goal.bounds-low-q
 bounds-low-q c = let hq : _ = c.loop-q.invariant.1 c.loop-q-test.true in omega (arith, hq, c.loop-q.invariant.4)
-
-pub overflow_cast-q : goal.overflow_cast-q
-overflow_cast-q c = let hq : _ = c.loop-q.invariant.1 c.loop-q-test.true in let r : _ = c.loop-q.invariant.0.rows in search rules
-
-pub offset_bounds-parent-q : goal.offset_bounds-parent-q
-offset_bounds-parent-q c = let hq : _ = c.loop-q.invariant.1 c.loop-q-test.true in let r : _ = c.loop-q.invariant.0.rows in search rules
 
 pub bounds-parent-q : goal.bounds-parent-q
 bounds-parent-q c = let hq : _ = c.loop-q.invariant.1 c.loop-q-test.true in let r : _ = c.loop-q.invariant.0.rows in search rules
@@ -55,9 +40,6 @@ loop-q-preserved c = let inv : _ = c.loop-q.invariant in
       climb_pass _ _ _ _ _ _ _ _ _ _ _ _ _ _ c.requires.2 inv.3 hq inv.0.counts c.loop-q-test.true c.bump.ensures.0 inv.4 refl l,
       length-set c.loop-q.low _ _ ∙ inv.4,
     )
-
-pub shape_of-low : goal.shape_of-low
-shape_of-low c = c.loop-q.invariant.4 ∙ sym c.requires.1
 
 pub returns : goal.returns
 returns c = (lacks_end _ _ _ _ _ _ _ c.loop-q.invariant.0 c.loop-q-test.false c.loop-q.invariant.2, climb_end _ _ _ _ _ c.loop-q.count _ _ c.loop-q.low _ _ _ _ _ c.requires.2 c.loop-q.invariant.3 c.loop-q-test.false)

@@ -1,11 +1,6 @@
 -- `placing::place` meets its contract: each turn gives one mutation its nearest standing row.
-use Prim.Native.Nat.{◌-◌}
-use lib.ListN.{length}
 use Rattle.placing.specs.Placing.{Between}
 use Rattle.placing.proofs.place.Given as goal
 
 abbrev pub invariant-loop-m : goal.invariant-loop-m
 invariant-loop-m l = Between l.sample l.par l.position l.site l.node l.next (record { row = l.initial.mrow; low = l.initial.mlow; count = l.k0 }) l.m0 (record { row = l.mrow; low = l.mlow; count = l.k }) l.m
-
-abbrev pub decreases-loop-m : goal.decreases-loop-m
-decreases-loop-m l = length l.site - l.m

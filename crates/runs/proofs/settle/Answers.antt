@@ -1,55 +1,46 @@
 -- `runs::settle` meets its contract: the rows touched are dealt with one by one.
-use Prim.Native.Nat.{◌-◌}
 use Rattle.runs.proofs.Changing.{under_start, under_next, under_end, bared_start, bared_next, bared_end}
 use native.Mathlib.Omega.{arith}
-use borrow.Author.Rules.{rules}
 use Rattle.runs.proofs.settle.Goals as goal
 
 pub loop-i-init : goal.loop-i-init
-loop-i-init c = (search rules, under_start _ _ _ _ _ c.requires.0, bared_start _ _ _)
-
-pub overflow_cast-listed : goal.overflow_cast-listed
-overflow_cast-listed c = omega (arith, c.type_inv.touched c.loop-i.i)
+loop-i-init c = (under_start _ _ _ _ _ c.requires.0, bared_start _ _ _)
 
 pub bounds-listed-c : goal.bounds-listed-c
-bounds-listed-c c = omega (arith, c.loop-i.invariant.2.long, c.requires.3, c.requires.2 c.loop-i.i c.loop-i-test.true)
+bounds-listed-c c = omega (arith, c.loop-i.invariant.1.long, c.requires.3, c.requires.2 c.loop-i.i c.loop-i-test.true)
 
 pub settle_row-made-requires : goal.settle_row-made-requires
-settle_row-made-requires c = (c.loop-i.invariant.1.ready, c.requires.2 c.loop-i.i c.loop-i-test.true)
-
-pub overflow_add-i : goal.overflow_add-i
-overflow_add-i c = omega (arith, c.loop-i-test.true, c.ranges.nt)
+settle_row-made-requires c = (c.loop-i.invariant.0.ready, c.requires.2 c.loop-i.i c.loop-i-test.true)
 
 pub loop-i-preserved : goal.loop-i-preserved
 loop-i-preserved c = (
-  search rules,
-  under_next _ _ _ _ _ _ _ _ _ _ c.loop-i.invariant.1 (c.requires.2 c.loop-i.i c.loop-i-test.true) c.settle_row-made.ensures c.settle_row-made.auto.stood,
-  bared_next _ _ _ _ _ c.requires.3 (c.requires.2 c.loop-i.i c.loop-i-test.true) c.loop-i.invariant.2,
+  under_next _ _ _ _ _ _ _ _ _ _ c.loop-i.invariant.0 (c.requires.2 c.loop-i.i c.loop-i-test.true) c.settle_row-made.ensures c.settle_row-made.auto.stood,
+  bared_next _ _ _ _ _ c.requires.3 (c.requires.2 c.loop-i.i c.loop-i-test.true) c.loop-i.invariant.1,
 )
 
 pub shape_of-listed : goal.shape_of-listed
-shape_of-listed c = omega (arith, c.loop-i.invariant.2.long)
+shape_of-listed c = omega (arith, c.loop-i.invariant.1.long)
 
 pub shape_of-open_left : goal.shape_of-open_left
-shape_of-open_left c = omega (arith, c.loop-i.invariant.1.ready.runs.left_long, c.requires.0.runs.left_long)
+shape_of-open_left c = omega (arith, c.loop-i.invariant.0.ready.runs.left_long, c.requires.0.runs.left_long)
 
 pub shape_of-open_par : goal.shape_of-open_par
-shape_of-open_par c = omega (arith, c.loop-i.invariant.1.ready.runs.par_long, c.requires.0.runs.par_long)
+shape_of-open_par c = omega (arith, c.loop-i.invariant.0.ready.runs.par_long, c.requires.0.runs.par_long)
 
 pub shape_of-fl : goal.shape_of-fl
-shape_of-fl c = omega (arith, c.loop-i.invariant.1.onward.lefts)
+shape_of-fl c = omega (arith, c.loop-i.invariant.0.onward.lefts)
 
 pub shape_of-fr : goal.shape_of-fr
-shape_of-fr c = omega (arith, c.loop-i.invariant.1.onward.rights)
+shape_of-fr c = omega (arith, c.loop-i.invariant.0.onward.rights)
 
 pub shape_of-fp : goal.shape_of-fp
-shape_of-fp c = omega (arith, c.loop-i.invariant.1.onward.parents)
+shape_of-fp c = omega (arith, c.loop-i.invariant.0.onward.parents)
 
 pub shape_of-fc : goal.shape_of-fc
-shape_of-fc c = omega (arith, c.loop-i.invariant.1.onward.children)
+shape_of-fc c = omega (arith, c.loop-i.invariant.0.onward.children)
 
 pub shape_of-stood : goal.shape_of-stood
-shape_of-stood c = omega (arith, c.loop-i.invariant.1.ready.room.stood_long, c.requires.0.room.stood_long)
+shape_of-stood c = omega (arith, c.loop-i.invariant.0.ready.room.stood_long, c.requires.0.room.stood_long)
 
 pub returns : goal.returns
-returns c = (under_end _ _ _ _ _ _ _ _ _ c.loop-i-test.false c.loop-i.invariant.1, bared_end _ _ _ _ _ _ c.loop-i-test.false c.loop-i.invariant.2)
+returns c = (under_end _ _ _ _ _ _ _ _ _ c.loop-i-test.false c.loop-i.invariant.0, bared_end _ _ _ _ _ _ c.loop-i-test.false c.loop-i.invariant.1)

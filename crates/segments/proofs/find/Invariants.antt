@@ -1,10 +1,6 @@
--- No segment before i holds x.
-use Rattle.std.proofs.Common.{length, ◌-◌, ◌≤◌}
+-- No segment before the cursor holds x.
 use Rattle.segments.specs.Search.{Onward}
 use Rattle.segments.proofs.find.Given as goal
 
-abbrev pub invariant-loop-i : goal.invariant-loop-i
-invariant-loop-i l = (l.i ≤ length l.s) × Onward l.s l.x l.i
-
-abbrev pub decreases-loop-i : goal.decreases-loop-i
-decreases-loop-i l = length l.s - l.i
+abbrev pub invariant-loop-seg : goal.invariant-loop-seg
+invariant-loop-seg l = Onward l.s l.x l.seg-index

@@ -1,6 +1,5 @@
 -- `sweep::walk` meets its contract: each turn brings the sweep to the next change, and at the end of the chromosome it is done.
 use mathlib.Core.Path.{refl, sym, ◌∙◌}
-use Prim.Native.Nat.{◌-◌}
 use native.Mathlib.Omega.{arith}
 use Rattle.sweep.proofs.Ending.{came_none, came_then, steady_on, close_ready, done}
 use Rattle.sweep.proofs.walk.Goals as goal

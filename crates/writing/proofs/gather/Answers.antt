@@ -1,31 +1,25 @@
 -- `writing::gather` meets its contract: the cells at the first i rows stand at the front.
-use mathlib.Core.Path.{sym, ap, ◌∙◌}
-use mathlib.Core.List.{map}
-use Prim.Native.Nat.{◌-◌}
-use lib.ListN.{length, take}
-use Rattle.meaning.specs.Words.{at}
-use Rattle.writing.proofs.Filling.{fill_start, fill_next, fill_end, made_long, made_at, row_inside}
-use native.Mathlib.Omega.{arith}
-use borrow.Author.Rules.{rules}
+use Rattle.std.proofs.Common.{arith, ◌∙◌, length, length-take}
+use Rattle.std.proofs.lemmas.List.{get_or_default}
+use lib.Seq.{length-take-le}
+use Rattle.writing.proofs.Filling.{gather_start, gather_next, gather_end}
 use Rattle.writing.proofs.gather.Goals as goal
 
 pub loop-i-init : goal.loop-i-init
-loop-i-init c = (search rules, fill_start (map (at c.args.src.now) (take c.args.k c.args.rows.now)) c.args.out.now (omega (arith, made_long (at c.args.src.now) c.args.rows.now c.args.k c.requires.0, c.requires.1)))
+loop-i-init g c = gather_start _ _ _
 
 pub offset_bounds-src-wide : goal.offset_bounds-src-wide
-offset_bounds-src-wide c = omega (arith, row_inside (length c.args.src.now) c.args.rows.now c.args.k c.loop-i.i c.requires.0 c.requires.2 c.loop-i-test.true, c.wide.ensures)
+offset_bounds-src-wide g c = omega (arith, c.wide.ensures, c.requires.2.row c.loop-i.i c.loop-i-test.true)
 
 pub bounds-src-wide : goal.bounds-src-wide
-bounds-src-wide c = omega (arith, row_inside (length c.args.src.now) c.args.rows.now c.args.k c.loop-i.i c.requires.0 c.requires.2 c.loop-i-test.true, c.wide.ensures)
-
-pub bounds-out-i : goal.bounds-out-i
-bounds-out-i c = omega (arith, c.loop-i.invariant.1.long, c.requires.1, c.loop-i-test.true)
+bounds-src-wide g c = omega (arith, c.wide.ensures, c.requires.2.row c.loop-i.i c.loop-i-test.true)
 
 pub loop-i-preserved : goal.loop-i-preserved
-loop-i-preserved c = (omega arith, fill_next (map (at c.args.src.now) (take c.args.k c.args.rows.now)) c.args.out.now c.loop-i.out c.loop-i.i c.loop-i.invariant.1 _ (omega (arith, made_long (at c.args.src.now) c.args.rows.now c.args.k c.requires.0)) (made_at (at c.args.src.now) c.args.rows.now c.args.k c.requires.0 c.loop-i.i c.loop-i-test.true ∙ ap (at c.args.src.now) (sym c.wide.ensures)))
-
-pub shape_of-out : goal.shape_of-out
-shape_of-out c = c.loop-i.invariant.1.long
+loop-i-preserved g c =
+    gather_next _ _ _ c.loop-i.out c.loop-i.i c.wide.result c.index-src-wide.result c.wide.ensures c.loop-i-test.true
+    (omega (arith, c.loop-i-test.true, length-take-le c.args.k c.args.rows.now c.requires.0, c.requires.1))
+    (λ other. c.index-src-wide.is ∙ get_or_default c.args.src.now c.wide.result c.index-src-wide.result other (omega (arith, c.wide.ensures, c.requires.2.row c.loop-i.i c.loop-i-test.true)))
+    c.loop-i.invariant
 
 pub returns : goal.returns
-returns c = fill_end (map (at c.args.src.now) (take c.args.k c.args.rows.now)) c.args.out.now c.loop-i.out c.loop-i.i c.loop-i.invariant.1 (omega (arith, made_long (at c.args.src.now) c.args.rows.now c.args.k c.requires.0))
+returns g c = gather_end _ _ _ c.loop-i.out c.loop-i.i (omega (arith, c.loop-i-test.false)) c.loop-i.invariant

@@ -11,19 +11,19 @@ use Rattle.writing.proofs.rename.Goals as goal
 use Rattle.writing.proofs.rename.Goals.{then-v-names, else-v-names}
 
 pub loop-i-init : goal.loop-i-init
-loop-i-init c = (search rules, fill_start (map (renamed c.args.names.now) (take c.args.k c.args.col.now)) c.args.col.now (omega (arith, made_long (renamed c.args.names.now) c.args.col.now c.args.k c.requires)))
+loop-i-init c = fill_start (map (renamed c.args.names.now) (take c.args.k c.args.col.now)) c.args.col.now (omega (arith, made_long (renamed c.args.names.now) c.args.col.now c.args.k c.requires))
 
 pub bounds-col-i : goal.bounds-col-i
-bounds-col-i c = omega (arith, c.loop-i.invariant.1.long)
+bounds-col-i c = omega (arith, c.loop-i.invariant.long)
 
 pub bounds-col-i-then-v-names : goal.bounds-col-i-then-v-names
-bounds-col-i-then-v-names c = omega (arith, c.loop-i.invariant.1.long)
+bounds-col-i-then-v-names c = omega (arith, c.loop-i.invariant.long)
 
 pub loop-i-preserved : goal.loop-i-preserved
-loop-i-preserved c = (omega arith, elim c.if-v-names.branch [ then-v-names w ↦ rw w.col-is (fill_next (map (renamed c.args.names.now) (take c.args.k c.args.col.now)) c.args.col.now c.loop-i.col c.loop-i.i c.loop-i.invariant.1 _ (omega (arith, made_long (renamed c.args.names.now) c.args.col.now c.args.k c.requires)) (made_at (renamed c.args.names.now) c.args.col.now c.args.k c.requires c.loop-i.i c.loop-i-test.true ∙ ap (renamed c.args.names.now) (sym (fill_old (map (renamed c.args.names.now) (take c.args.k c.args.col.now)) c.args.col.now c.loop-i.col c.loop-i.i c.loop-i.invariant.1) ∙ sym c.wide-v.ensures) ∙ renamed_row c.args.names.now c.wide-v.result w.if-v-names.true)) | else-v-names w ↦ rw w.col-is (fill_same (map (renamed c.args.names.now) (take c.args.k c.args.col.now)) c.args.col.now c.loop-i.col c.loop-i.i c.loop-i.invariant.1 (omega (arith, made_long (renamed c.args.names.now) c.args.col.now c.args.k c.requires)) (made_at (renamed c.args.names.now) c.args.col.now c.args.k c.requires c.loop-i.i c.loop-i-test.true ∙ ap (renamed c.args.names.now) (sym (fill_old (map (renamed c.args.names.now) (take c.args.k c.args.col.now)) c.args.col.now c.loop-i.col c.loop-i.i c.loop-i.invariant.1) ∙ sym c.wide-v.ensures) ∙ renamed_none c.args.names.now c.wide-v.result w.if-v-names.false ∙ sym (sym (fill_old (map (renamed c.args.names.now) (take c.args.k c.args.col.now)) c.args.col.now c.loop-i.col c.loop-i.i c.loop-i.invariant.1) ∙ sym c.wide-v.ensures))) ])
+loop-i-preserved c = elim c.if-v-names.branch [ then-v-names w ↦ rw w.col-is (fill_next (map (renamed c.args.names.now) (take c.args.k c.args.col.now)) c.args.col.now c.loop-i.col c.loop-i.i c.loop-i.invariant _ (omega (arith, made_long (renamed c.args.names.now) c.args.col.now c.args.k c.requires)) (made_at (renamed c.args.names.now) c.args.col.now c.args.k c.requires c.loop-i.i c.loop-i-test.true ∙ ap (renamed c.args.names.now) (sym (fill_old (map (renamed c.args.names.now) (take c.args.k c.args.col.now)) c.args.col.now c.loop-i.col c.loop-i.i c.loop-i.invariant) ∙ sym c.wide-v.ensures) ∙ renamed_row c.args.names.now c.wide-v.result w.if-v-names.true)) | else-v-names w ↦ rw w.col-is (fill_same (map (renamed c.args.names.now) (take c.args.k c.args.col.now)) c.args.col.now c.loop-i.col c.loop-i.i c.loop-i.invariant (omega (arith, made_long (renamed c.args.names.now) c.args.col.now c.args.k c.requires)) (made_at (renamed c.args.names.now) c.args.col.now c.args.k c.requires c.loop-i.i c.loop-i-test.true ∙ ap (renamed c.args.names.now) (sym (fill_old (map (renamed c.args.names.now) (take c.args.k c.args.col.now)) c.args.col.now c.loop-i.col c.loop-i.i c.loop-i.invariant) ∙ sym c.wide-v.ensures) ∙ renamed_none c.args.names.now c.wide-v.result w.if-v-names.false ∙ sym (sym (fill_old (map (renamed c.args.names.now) (take c.args.k c.args.col.now)) c.args.col.now c.loop-i.col c.loop-i.i c.loop-i.invariant) ∙ sym c.wide-v.ensures))) ]
 
 pub shape_of-col : goal.shape_of-col
-shape_of-col c = c.loop-i.invariant.1.long
+shape_of-col c = c.loop-i.invariant.long
 
 pub returns : goal.returns
-returns c = fill_end (map (renamed c.args.names.now) (take c.args.k c.args.col.now)) c.args.col.now c.loop-i.col c.loop-i.i c.loop-i.invariant.1 (omega (arith, made_long (renamed c.args.names.now) c.args.col.now c.args.k c.requires))
+returns c = fill_end (map (renamed c.args.names.now) (take c.args.k c.args.col.now)) c.args.col.now c.loop-i.col c.loop-i.i c.loop-i.invariant (omega (arith, made_long (renamed c.args.names.now) c.args.col.now c.args.k c.requires))

@@ -7,7 +7,5 @@ use Rattle.writing.proofs.Filling.{Filled}
 use Rattle.writing.proofs.rename.Given as goal
 
 abbrev pub invariant-loop-i : goal.invariant-loop-i
-invariant-loop-i l = (l.i ≤ l.k) × Filled (map (renamed l.names) (take l.k l.initial.col)) l.initial.col l.col l.i
+invariant-loop-i l = Filled (map (renamed l.names) (take l.k l.initial.col)) l.initial.col l.col l.i
 
-abbrev pub decreases-loop-i : goal.decreases-loop-i
-decreases-loop-i l = l.k - l.i

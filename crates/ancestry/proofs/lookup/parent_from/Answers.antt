@@ -20,7 +20,7 @@ pub returns-then-cell_at-x : goal.returns-then-cell_at-x
 returns-then-cell_at-x c = c.none_from-then-cell_at-x.ensures ∙ over_stretch _ _ _ _ _ _ (places _ _ _ _ c.args.index.indexed _ c.requires c.first_place-low.ensures) _ _ c.place_after-place.ensures c.cell_at.ensures c.if-cell_at-x.true
 
 pub carried_end-requires : goal.carried_end-requires
-carried_end-requires c = from_before _ _ _ _ _ _ (places _ _ _ _ c.args.index.indexed _ c.requires c.first_place-low.ensures) _ c.args.index.edges.even c.if-place-low.false c.place_after-place.ensures.inside
+carried_end-requires c = from_before _ _ _ _ _ _ (places _ _ _ _ c.args.index.indexed _ c.requires c.first_place-low.ensures) _ c.if-place-low.false c.place_after-place.ensures.inside
 
 pub returns : goal.returns
 returns c = held_stretch _ _ _ _ _ _ (places _ _ _ _ c.args.index.indexed _ c.requires c.first_place-low.ensures) _ _ c.place_after-place.ensures c.cell_at.ensures c.if-place-low.false c.if-cell_at-x.false c.cell_at-2.ensures c.carried_end.ensures

@@ -1,8 +1,8 @@
 -- `cleaner::finish::finish_mutations` meets its contract: the states are read before the rows become sites.
 use Rattle.cleaner.proofs.finish.finish_mutations.Goals as goal
 
-pub gather_states-requires : goal.gather_states-requires
-gather_states-requires c = (c.requires.0, c.requires.2, c.requires.3)
+pub gather-requires : goal.gather-requires
+gather-requires c = (c.requires.0, c.requires.2, c.requires.3)
 
 pub rename-requires : goal.rename-requires
 rename-requires c = c.requires.0
@@ -17,7 +17,7 @@ pub shape_of-out_node : goal.shape_of-out_node
 shape_of-out_node c = c.rename-2.auto.col
 
 pub shape_of-out_derived : goal.shape_of-out_derived
-shape_of-out_derived c = c.gather_states.auto.out
+shape_of-out_derived c = c.gather.auto.out
 
 pub returns : goal.returns
-returns c = record { sites = c.rename.ensures; nodes = c.rename-2.ensures; states = c.gather_states.ensures }
+returns c = record { sites = c.rename.ensures; nodes = c.rename-2.ensures; states = c.gather.ensures 0 }

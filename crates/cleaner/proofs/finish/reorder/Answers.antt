@@ -18,4 +18,4 @@ pub shape_of-spare : goal.shape_of-spare
 shape_of-spare c = c.gather.auto.out
 
 pub returns : goal.returns
-returns c = copied_back (at c.args.col.now) c.args.order.now c.args.spare.now c.gather.new.out c.args.col.now c.copy.new.out c.args.k c.requires.0 c.gather.ensures c.copy.ensures
+returns c = copied_back (at c.args.col.now) c.args.order.now c.args.spare.now c.gather.new.out c.args.col.now c.copy.new.out c.args.k c.requires.0 (c.gather.ensures 0) c.copy.ensures

@@ -1,6 +1,6 @@
 -- `form::fill::fill16` meets its contract: the loop has filled the cells that it has passed. Assumes nothing.
 use mathlib.Core.Path.{ap, ◌∙◌}
-use Prim.Native.Nat.{ℕ, ◌+◌, ◌*◌, ◌-◌}
+use Prim.Native.Nat.{ℕ, ◌+◌, ◌*◌}
 use Rattle.meaning.specs.Stored.{number}
 use Rattle.form.proofs.Filling.{fill_start, fill_more, fill_end, field_there}
 use native.Mathlib.Omega.{arith}
@@ -19,7 +19,7 @@ pub overflow_add-at : goal.overflow_add-at
 overflow_add-at c = omega (arith, field_there 2 c.args.s.now c.args.start c.args.step c.args.n c.loop-i.at c.loop-i.i c.requires.0 c.loop-i.invariant.place c.loop-i-test.true, c.requires.0.short)
 
 pub loop-i-preserved : goal.loop-i-preserved
-loop-i-preserved c = fill_more (λ (k : ℕ). number 2 c.args.s.now (c.args.start + k * c.args.step)) c.args.start c.args.step c.args.n c.args.out.now c.loop-i.out c.loop-i.at c.loop-i.i c.get16.result c.requires.1 c.loop-i.invariant c.loop-i-test.true (c.get16.ensures.0 ∙ ap (number 2 c.args.s.now) c.loop-i.invariant.place)
+loop-i-preserved c = fill_more (λ (k : ℕ). number 2 c.args.s.now (c.args.start + k * c.args.step)) c.args.start c.args.step c.args.n c.args.out.now c.loop-i.out c.loop-i.at c.loop-i.i c.get16.result c.requires.1 c.loop-i.invariant c.loop-i-test.true (c.get16.ensures ∙ ap (number 2 c.args.s.now) c.loop-i.invariant.place)
 
 pub shape_of-out : goal.shape_of-out
 shape_of-out c = c.loop-i.invariant.same

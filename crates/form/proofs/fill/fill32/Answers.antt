@@ -1,6 +1,6 @@
 -- `form::fill::fill32` meets its contract: the loop has filled the cells that it has passed. Assumes nothing.
 use mathlib.Core.Path.{ap, ◌∙◌}
-use Prim.Native.Nat.{ℕ, ◌+◌, ◌*◌, ◌-◌}
+use Prim.Native.Nat.{ℕ, ◌+◌, ◌*◌}
 use Rattle.meaning.specs.Stored.{number}
 use Rattle.form.proofs.Filling.{fill_start, fill_more, fill_end, field_there}
 use native.Mathlib.Omega.{arith}

@@ -1,6 +1,6 @@
 -- `form::fill::fill8` meets its contract: the loop has filled the cells that it has passed. Assumes nothing.
 use mathlib.Core.Path.{sym, ap, ◌∙◌}
-use Prim.Native.Nat.{ℕ, ◌+◌, ◌*◌, ◌-◌}
+use Prim.Native.Nat.{ℕ, ◌+◌, ◌*◌}
 use lib.ListN.{get_or}
 use Rattle.meaning.specs.Stored.{number}
 use Rattle.form.proofs.Filling.{number_one, fill_start, fill_more, fill_end, field_there}

@@ -4,4 +4,4 @@ use native.Mathlib.Omega.{arith}
 use Rattle.form.proofs.fill.get16.Goals as goal
 
 pub returns : goal.returns
-returns c = omega (arith, number_two c.args.s.now c.args.at, c.wide.ensures, c.wide-2.ensures)
+returns c = omega (arith, number_two c.args.s.now c.args.at, c.from_le_bytes.ensures, c.from.ensures)

@@ -1,6 +1,5 @@
 -- `form::lay::edges` meets its contract: the loop has laid the records that it has passed. Assumes nothing.
 use mathlib.Core.List.{[], ◌∷◌}
-use Prim.Native.Nat.{◌-◌}
 use lib.ListN.{length}
 use Rattle.meaning.specs.Answer.{stored_limits}
 use Rattle.meaning.specs.Stored.{ED}
@@ -9,6 +8,3 @@ use Rattle.form.proofs.lay.edges.Given as goal
 
 abbrev pub invariant-loop-i : goal.invariant-loop-i
 invariant-loop-i l = Laid (ED 2 stored_limits) (l.left ∷ l.right ∷ l.parent ∷ l.child ∷ []) l.start 14 (length l.left) l.initial.out l.out l.at l.i
-
-abbrev pub decreases-loop-i : goal.decreases-loop-i
-decreases-loop-i l = length l.left - l.i

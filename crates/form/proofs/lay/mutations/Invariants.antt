@@ -1,6 +1,5 @@
 -- `form::lay::mutations` meets its contract: the loop has laid the records that it has passed. Assumes nothing.
 use mathlib.Core.List.{[], ◌∷◌}
-use Prim.Native.Nat.{◌-◌}
 use lib.ListN.{length}
 use Rattle.meaning.specs.Answer.{stored_limits}
 use Rattle.meaning.specs.Stored.{MU}
@@ -9,6 +8,3 @@ use Rattle.form.proofs.lay.mutations.Given as goal
 
 abbrev pub invariant-loop-i : goal.invariant-loop-i
 invariant-loop-i l = Laid (MU 2 stored_limits) (l.site ∷ l.node ∷ l.derived ∷ []) l.start 7 (length l.site) l.initial.out l.out l.at l.i
-
-abbrev pub decreases-loop-i : goal.decreases-loop-i
-decreases-loop-i l = length l.site - l.i

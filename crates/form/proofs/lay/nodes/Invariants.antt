@@ -1,6 +1,5 @@
 -- `form::lay::nodes` meets its contract: the loop has laid the records that it has passed. Assumes nothing.
 use mathlib.Core.List.{[], ◌∷◌}
-use Prim.Native.Nat.{◌-◌}
 use lib.ListN.{length}
 use Rattle.meaning.specs.Answer.{stored_limits}
 use Rattle.meaning.specs.Stored.{ND}
@@ -9,6 +8,3 @@ use Rattle.form.proofs.lay.nodes.Given as goal
 
 abbrev pub invariant-loop-i : goal.invariant-loop-i
 invariant-loop-i l = Laid (ND stored_limits) (l.time ∷ l.birth ∷ []) l.start 10 (length l.time) l.initial.out l.out l.at l.i
-
-abbrev pub decreases-loop-i : goal.decreases-loop-i
-decreases-loop-i l = length l.time - l.i

@@ -1,13 +1,11 @@
--- `form::lay::put16` meets its contract: two bytes, one after the other. Assumes nothing.
-use mathlib.Core.List.{[], ◌∷◌}
-use Prim.Native.Nat.{◌+◌, ◌/◌, ◌%◌}
+-- `form::lay::put16` meets its contract: the two low bytes of four are laid there. Assumes nothing.
+use mathlib.Core.Path.{ap, ◌∙◌}
+use lib.ListN.{take}
 use Rattle.meaning.specs.Stored.{bytes_of}
-use Rattle.form.proofs.Laying.{lay_chain}
-use native.Mathlib.Omega.{arith}
+use Rattle.form.specs.Numbers.{length_bytes}
+use Rattle.form.proofs.Laying.{bytes_two}
+use Rattle.form.proofs.Laying.{lay_part}
 use Rattle.form.proofs.lay.put16.Goals as goal
 
 pub returns : goal.returns
-unfolding bytes_of
-returns c = let e0 : _ = c.put8.ensures in
-    let e1 : _ = lay_chain c.args.at (c.args.at + 1) ((c.args.v % 256) ∷ []) ((c.args.v / 256 % 256) ∷ []) c.args.out.now e0 c.put8-2.ensures (omega arith) (omega (arith, c.requires)) in
-    e1
+returns c = lay_part c.args.at 2 (bytes_of 2 c.args.v) c.args.out.now (c.copy_from_slice.ensures.after ∙ ap (take 2) c.to_le_bytes.ensures ∙ bytes_two c.args.v) (length_bytes 2 c.args.v)

@@ -1,7 +1,6 @@
 -- `form::lay::sites` meets its contract: the loop has laid the records that it has passed. Assumes nothing.
 use mathlib.Core.Path.{refl}
 use mathlib.Core.List.{[], ◌∷◌}
-use Prim.Native.Nat.{◌-◌}
 use lib.ListN.{length}
 use Rattle.meaning.specs.Answer.{stored_limits}
 use Rattle.meaning.specs.Stored.{Si, size, total, record_at, fields_at}

@@ -1,12 +1,9 @@
--- `form::walk::is_mark` meets its contract: each return is one of the mark's tests. Assumes nothing.
-use Rattle.form.proofs.Walking.{mark_short, mark_first, mark_second}
+-- `form::walk::is_mark` meets its contract: the two bytes that stand there are the mark's. Assumes nothing.
+use mathlib.Core.Path.{◌≡◌, ◌∙◌}
+use lib.ListN.{length}
+use Rattle.std.proofs.Common.{rules}
+use Rattle.form.proofs.Walking.{mark_there}
 use Rattle.form.proofs.walk.is_mark.Goals as goal
 
-pub returns-then-s-at-lt2 : goal.returns-then-s-at-lt2
-returns-then-s-at-lt2 c = mark_short c.args.a c.args.b c.args.s.now c.args.at c.if-s-at-lt2.true c.requires
-
-pub returns-then-s-at : goal.returns-then-s-at
-returns-then-s-at c = mark_first c.args.a c.args.b c.args.s.now c.args.at c.if-s-at-lt2.false c.if-s-at.true
-
 pub returns : goal.returns
-returns c = mark_second c.args.a c.args.b c.args.s.now c.args.at c.if-s-at-lt2.false c.if-s-at.false
+returns c = let h : length c.args.mark ≡ 2 = search rules in c.starts_with.ensures.value ∙ mark_there c.args.mark c.args.s.now c.args.place h c.requires

@@ -1,20 +1,18 @@
 -- `form::walk::stretch` meets its contract: the loop counts the whole records that it has passed. Assumes nothing.
 use mathlib.Core.Path.{sym, ◌∙◌}
-use Prim.Native.Nat.{◌-◌}
-use Rattle.form.proofs.Walking.{count_start, count_unmarked, count_cut, count_full, count_more}
+use Rattle.meaning.specs.Words.{at}
+use Rattle.form.proofs.Walking.{count_unmarked, count_cut, count_full, count_more}
+use Rattle.form.proofs.walk.stretch.Goals.{then-not-is_mark-via-then-not-is_mark, then-not-is_mark-via-else-not-is_mark+then-s-end}
 use Rattle.form.proofs.walk.stretch.Goals as goal
 
-pub loop-count-init : goal.loop-count-init
-loop-count-init c = count_start c.args.a c.args.b c.args.size c.args.most c.args.s.now c.args.start c.requires
-
 pub returns-then-not-is_mark : goal.returns-then-not-is_mark
-returns-then-not-is_mark c = count_unmarked c.args.a c.args.b c.args.size c.args.most c.args.s.now c.args.start c.loop-count.count c.loop-count.end c.loop-count.invariant (sym c.is_mark.ensures ∙ c.if-not-is_mark.true)
-
-pub returns-then-s-end : goal.returns-then-s-end
-returns-then-s-end c = count_cut c.args.a c.args.b c.args.size c.args.most c.args.s.now c.args.start c.loop-count.count c.loop-count.end c.loop-count.invariant (sym c.is_mark.ensures ∙ c.if-not-is_mark.false) c.if-s-end.true
+returns-then-not-is_mark c = elim c.then-not-is_mark.branch [
+  | then-not-is_mark-via-then-not-is_mark w ↦ count_unmarked (at c.args.k.mark 0) (at c.args.k.mark 1) c.args.k.size c.args.k.most c.args.s.now c.args.start c.loop-count.count c.loop-count.end c.loop-count.invariant (sym c.is_mark.ensures ∙ w.if-not-is_mark.true)
+  | then-not-is_mark-via-else-not-is_mark+then-s-end w ↦ count_cut (at c.args.k.mark 0) (at c.args.k.mark 1) c.args.k.size c.args.k.most c.args.s.now c.args.start c.loop-count.count c.loop-count.end c.loop-count.invariant (sym c.is_mark.ensures ∙ w.if-not-is_mark.false) w.if-s-end.true
+]
 
 pub loop-count-preserved : goal.loop-count-preserved
-loop-count-preserved c = count_more c.args.a c.args.b c.args.size c.args.most c.args.s.now c.args.start c.loop-count.count c.loop-count.end c.loop-count.invariant c.loop-count-test.true (sym c.is_mark.ensures ∙ c.if-not-is_mark.false) c.if-s-end.false
+loop-count-preserved c = count_more (at c.args.k.mark 0) (at c.args.k.mark 1) c.args.k.size c.args.k.most c.args.s.now c.args.start c.loop-count.count c.loop-count.end c.loop-count.invariant c.loop-count-test.true (sym c.is_mark.ensures ∙ c.if-not-is_mark.false) c.if-s-end.false
 
 pub returns : goal.returns
-returns c = count_full c.args.a c.args.b c.args.size c.args.most c.args.s.now c.args.start c.loop-count.count c.loop-count.end c.loop-count.invariant c.loop-count-test.false
+returns c = count_full (at c.args.k.mark 0) (at c.args.k.mark 1) c.args.k.size c.args.k.most c.args.s.now c.args.start c.loop-count.end c.loop-count.count c.loop-count.invariant c.loop-count-test.false

@@ -5,10 +5,10 @@ use Rattle.listing.proofs.Pieces.{four_as}
 use Rattle.listing.proofs.Writing.{wrote_as, room_as}
 use Rattle.listing.proofs.rows.edge.Goals as goal
 
-pub four-requires : goal.four-requires
+pub line-requires : goal.line-requires
 unfolding edge_line
-four-requires c = room_as c.args.at c.args.out.now (sym (four_as 69 c.cell-a.ensures c.cell-b.ensures c.cell-p.ensures c.cell-c.ensures)) c.requires
+line-requires c = room_as c.args.page.now.len c.args.page.now.out.now (sym (four_as 69 c.cell-a.ensures c.cell-b.ensures c.cell-p.ensures c.cell-c.ensures)) c.requires
 
-pub returns : goal.returns
+pub returns-clause-wrote : goal.returns-clause-wrote
 unfolding edge_line
-returns c = wrote_as (four_as 69 c.cell-a.ensures c.cell-b.ensures c.cell-p.ensures c.cell-c.ensures) c.four.ensures
+returns-clause-wrote c = wrote_as (four_as 69 c.cell-a.ensures c.cell-b.ensures c.cell-p.ensures c.cell-c.ensures) c.line.ensures.wrote

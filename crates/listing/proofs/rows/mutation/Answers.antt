@@ -5,10 +5,10 @@ use Rattle.listing.proofs.Pieces.{three_as}
 use Rattle.listing.proofs.Writing.{wrote_as, room_as}
 use Rattle.listing.proofs.rows.mutation.Goals as goal
 
-pub three-requires : goal.three-requires
+pub line-requires : goal.line-requires
 unfolding mutation_line
-three-requires c = room_as c.args.at c.args.out.now (sym (three_as 77 c.cell-j.ensures c.cell-u.ensures c.state-s.ensures)) c.requires
+line-requires c = room_as c.args.page.now.len c.args.page.now.out.now (sym (three_as 77 c.cell-j.ensures c.cell-u.ensures c.state-s.ensures)) c.requires
 
-pub returns : goal.returns
+pub returns-clause-wrote : goal.returns-clause-wrote
 unfolding mutation_line
-returns c = wrote_as (three_as 77 c.cell-j.ensures c.cell-u.ensures c.state-s.ensures) c.three.ensures
+returns-clause-wrote c = wrote_as (three_as 77 c.cell-j.ensures c.cell-u.ensures c.state-s.ensures) c.line.ensures.wrote

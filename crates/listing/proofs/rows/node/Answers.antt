@@ -5,10 +5,10 @@ use Rattle.listing.proofs.Pieces.{row_as}
 use Rattle.listing.proofs.Writing.{wrote_as, room_as}
 use Rattle.listing.proofs.rows.node.Goals as goal
 
-pub four-requires : goal.four-requires
+pub line-requires : goal.line-requires
 unfolding node_line
-four-requires c = room_as c.args.at c.args.out.now (sym (row_as 78 c.args.i c.cell-t.ensures c.cell-b.ensures c.stock-p.ensures)) c.requires
+line-requires c = room_as c.args.page.now.len c.args.page.now.out.now (sym (row_as 78 c.args.i c.cell-t.ensures c.cell-b.ensures c.stock-p.ensures)) c.requires
 
-pub returns : goal.returns
+pub returns-clause-wrote : goal.returns-clause-wrote
 unfolding node_line
-returns c = wrote_as (row_as 78 c.args.i c.cell-t.ensures c.cell-b.ensures c.stock-p.ensures) c.four.ensures
+returns-clause-wrote c = wrote_as (row_as 78 c.args.i c.cell-t.ensures c.cell-b.ensures c.stock-p.ensures) c.line.ensures.wrote

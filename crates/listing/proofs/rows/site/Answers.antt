@@ -5,10 +5,10 @@ use Rattle.listing.proofs.Pieces.{two_as}
 use Rattle.listing.proofs.Writing.{wrote_as, room_as}
 use Rattle.listing.proofs.rows.site.Goals as goal
 
-pub two-requires : goal.two-requires
+pub line-requires : goal.line-requires
 unfolding site_line
-two-requires c = room_as c.args.at c.args.out.now (sym (two_as 83 c.cell-x.ensures c.state-s.ensures)) c.requires
+line-requires c = room_as c.args.page.now.len c.args.page.now.out.now (sym (two_as 83 c.cell-x.ensures c.state-s.ensures)) c.requires
 
-pub returns : goal.returns
+pub returns-clause-wrote : goal.returns-clause-wrote
 unfolding site_line
-returns c = wrote_as (two_as 83 c.cell-x.ensures c.state-s.ensures) c.two.ensures
+returns-clause-wrote c = wrote_as (two_as 83 c.cell-x.ensures c.state-s.ensures) c.line.ensures.wrote

@@ -1,12 +1,12 @@
 -- `listing::tables::edges` meets its contract: the loop has written the rows that it has passed. Assumes nothing.
-use Prim.Native.Nat.{◌-◌}
+use mathlib.Core.Path.{◌≡◌}
 use lib.ListN.{length}
 use Rattle.meaning.specs.Printed.{edge_line}
 use Rattle.listing.proofs.Going.{Going}
 use Rattle.listing.proofs.tables.edges.Given as goal
 
 abbrev pub invariant-loop-i : goal.invariant-loop-i
-invariant-loop-i l = Going (edge_line (record { left = l.left; right = l.right; parent = l.parent; child = l.child })) (length l.left) l.start l.initial.out l.out l.at l.i
-
-abbrev pub decreases-loop-i : goal.decreases-loop-i
-decreases-loop-i l = length l.left - l.i
+invariant-loop-i l = record {
+  going : Going (edge_line (record { left = l.left; right = l.right; parent = l.parent; child = l.child })) (length l.left) l.initial.page.len l.initial.page.out.now l.page.out.now l.page.len l.i;
+  same : l.page.out.ghost_name ≡ l.initial.page.out.ghost_name;
+}

@@ -1,22 +1,18 @@
 -- `listing::tables::mutations` meets its contract: the loop has written the rows that it has passed. Assumes nothing.
-use Prim.Native.Nat.{◌-◌}
+use mathlib.Core.Path.{refl, ◌∙◌}
 use lib.ListN.{length}
 use Rattle.meaning.specs.Printed.{mutation_line}
 use Rattle.listing.proofs.Going.{going_start, going_room, going_more, going_end}
-use Rattle.listing.proofs.Writing.{wrote_length}
 use Rattle.listing.proofs.tables.mutations.Goals as goal
 
 pub loop-i-init : goal.loop-i-init
-loop-i-init c = going_start (mutation_line (record { site = c.args.site.now; node = c.args.node.now; derived = c.args.derived.now })) (length c.args.site.now) c.args.start c.args.out.now c.requires
+loop-i-init c = record { going = going_start (mutation_line (record { site = c.args.site.now; node = c.args.node.now; derived = c.args.derived.now })) (length c.args.site.now) c.args.page.now.len c.args.page.now.out.now c.requires; same = refl }
 
-pub mutation-at-requires : goal.mutation-at-requires
-mutation-at-requires c = going_room (mutation_line (record { site = c.args.site.now; node = c.args.node.now; derived = c.args.derived.now })) (length c.args.site.now) c.args.start c.args.out.now c.requires c.loop-i.invariant c.loop-i-test.true
+pub mutation-requires : goal.mutation-requires
+mutation-requires c = going_room (mutation_line (record { site = c.args.site.now; node = c.args.node.now; derived = c.args.derived.now })) (length c.args.site.now) c.args.page.now.len c.args.page.now.out.now c.requires c.loop-i.invariant.going c.loop-i-test.true
 
 pub loop-i-preserved : goal.loop-i-preserved
-loop-i-preserved c = going_more (mutation_line (record { site = c.args.site.now; node = c.args.node.now; derived = c.args.derived.now })) (length c.args.site.now) c.args.start c.args.out.now c.requires c.loop-i.invariant c.loop-i-test.true c.mutation-at.ensures
+loop-i-preserved c = record { going = going_more (mutation_line (record { site = c.args.site.now; node = c.args.node.now; derived = c.args.derived.now })) (length c.args.site.now) c.args.page.now.len c.args.page.now.out.now c.requires c.loop-i.invariant.going c.loop-i-test.true c.mutation.ensures.wrote; same = c.mutation.ensures.same ∙ c.loop-i.invariant.same }
 
-pub shape_of-out : goal.shape_of-out
-shape_of-out c = wrote_length c.loop-i.invariant.wrote
-
-pub returns : goal.returns
-returns c = going_end (mutation_line (record { site = c.args.site.now; node = c.args.node.now; derived = c.args.derived.now })) (length c.args.site.now) c.args.start c.args.out.now c.requires c.loop-i.invariant c.loop-i-test.false
+pub returns-clause-wrote : goal.returns-clause-wrote
+returns-clause-wrote c = going_end (mutation_line (record { site = c.args.site.now; node = c.args.node.now; derived = c.args.derived.now })) (length c.args.site.now) c.args.page.now.len c.args.page.now.out.now c.requires c.loop-i.invariant.going c.loop-i-test.false

@@ -1,12 +1,12 @@
 -- `listing::tables::nodes` meets its contract: the loop has written the rows that it has passed. Assumes nothing.
-use Prim.Native.Nat.{◌-◌}
+use mathlib.Core.Path.{◌≡◌}
 use lib.ListN.{length}
 use Rattle.meaning.specs.Printed.{node_line}
 use Rattle.listing.proofs.Going.{Going}
 use Rattle.listing.proofs.tables.nodes.Given as goal
 
 abbrev pub invariant-loop-i : goal.invariant-loop-i
-invariant-loop-i l = Going (node_line (record { time = l.time; birth = l.birth; population = l.population })) (length l.time) l.start l.initial.out l.out l.at l.i
-
-abbrev pub decreases-loop-i : goal.decreases-loop-i
-decreases-loop-i l = length l.time - l.i
+invariant-loop-i l = record {
+  going : Going (node_line (record { time = l.time; birth = l.birth; population = l.population })) (length l.time) l.initial.page.len l.initial.page.out.now l.page.out.now l.page.len l.i;
+  same : l.page.out.ghost_name ≡ l.initial.page.out.ghost_name;
+}

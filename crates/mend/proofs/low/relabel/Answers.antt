@@ -1,5 +1,4 @@
 -- `mend::low::relabel` meets its contract: what is done from the row that was come to is done from the first on.
-use Rattle.std.proofs.Common.{◌∙◌}
 use Rattle.mend.proofs.Labelling.{set_out, told_done, told_from, go_on}
 use Rattle.mend.proofs.low.relabel.Goals as goal
 
@@ -9,14 +8,11 @@ loop-r-init c = set_out _ c.requires
 pub relabel_up-requires : goal.relabel_up-requires
 relabel_up-requires c = c.loop-r.invariant.labelling
 
-pub shape_of-low-in-Done : goal.shape_of-low-in-Done
-shape_of-low-in-Done c = c.relabel_up.auto.low ∙ c.loop-r.invariant.long
-
-pub returns-in-Done : goal.returns-in-Done
-returns-in-Done c = told_done c.loop-r.invariant c.relabel_up.result c.relabel_up.ensures c.in-Done.is
+pub returns-in-Break : goal.returns-in-Break
+returns-in-Break c = told_done c.loop-r.invariant c.relabel_up.result c.relabel_up.ensures c.in-Break.is
 
 pub loop-r-smaller : goal.loop-r-smaller
-loop-r-smaller c = (told_from c.loop-r.invariant c.relabel_up.result c.relabel_up.ensures c.in-From.is).fewer
+loop-r-smaller c = (told_from c.loop-r.invariant c.relabel_up.result c.relabel_up.ensures c.in-Continue.is).fewer
 
 pub loop-r-preserved : goal.loop-r-preserved
-loop-r-preserved c = go_on c.loop-r.invariant c.relabel_up.result c.relabel_up.ensures c.relabel_up.auto.low c.in-From.is
+loop-r-preserved c = go_on c.loop-r.invariant c.relabel_up.result c.relabel_up.ensures c.relabel_up.auto.low c.in-Continue.is

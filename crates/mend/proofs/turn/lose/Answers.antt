@@ -16,12 +16,6 @@ returns-then-is_settled c = (loss_calm (sym c.is_settled.ensures ∙ c.if-is_set
 pub bounds-sum-s : goal.bounds-sum-s
 bounds-sum-s c = let p : _ = c.requires.0 in let l : _ = p.line (settled_no _ _ _ _ (sym c.is_settled.ensures ∙ c.if-is_settled.false)).0 in omega (arith, l.row, p.sums)
 
-pub overflow_cast-z : goal.overflow_cast-z
-overflow_cast-z c = let p : _ = c.requires.0 in let t : _ = sym c.is_settled.ensures ∙ c.if-is_settled.false in let h : _ = p.only t in let r : _ = (p.line (settled_no _ _ _ _ t).0).rows in record { fits = omega (arith, h, r) }
-
-pub offset_bounds-low-d : goal.offset_bounds-low-d
-offset_bounds-low-d c = let p : _ = c.requires.0 in let t : _ = sym c.is_settled.ensures ∙ c.if-is_settled.false in let h : _ = p.only t in let r : _ = (p.line (settled_no _ _ _ _ t).0).rows in record { fits = omega (arith, h, r) }
-
 pub bounds-low-d : goal.bounds-low-d
 bounds-low-d c = let p : _ = c.requires.0 in let h : _ = p.only (sym c.is_settled.ensures ∙ c.if-is_settled.false) in omega (arith, h, p.lows)
 

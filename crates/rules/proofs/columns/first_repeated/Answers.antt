@@ -1,10 +1,6 @@
 -- `first_repeated` meets its contract: rows by their numbers are lined up.
 use Rattle.meaning.specs.Check.{repeated}
-use Rattle.rules.proofs.Sorting.{ranked_lined}
 use Rattle.rules.proofs.columns.first_repeated.Goals as goal
-
-pub first_lined-requires : goal.first_lined-requires
-first_lined-requires c = ranked_lined _ _ c.rank.ensures
 
 pub returns : goal.returns
 unfolding repeated

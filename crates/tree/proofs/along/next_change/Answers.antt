@@ -6,4 +6,4 @@ use Rattle.tree.proofs.along.next_change.Goals as goal
 
 pub returns : goal.returns
 unfolding next_change
-returns c = let a : _ = c.args in c.next_key.ensures ∙ ap (λ (y : ℕ). next_key a.right.now a.br.now a.j y) c.next_key-y.ensures
+returns c = let a : _ = c.args in c.next_key.ensures ∙ ap (λ (y : ℕ). next_key a.edges.right.now a.br.now a.j y) c.next_key-y.ensures

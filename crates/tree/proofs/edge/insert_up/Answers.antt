@@ -19,27 +19,6 @@ gain-requires c = let k : _ = c.requires in
     let l : _ = c.link-s.ensures in
     (gaining (entry k.0 k.1 (sym c.alive.ensures ∙ c.if-alive.true) l.0 l.1 l.2) l.0 c.link-s.auto.low, k.2)
 
-pub shape_of-parent-then-alive : goal.shape_of-parent-then-alive
-shape_of-parent-then-alive c = c.link-s.auto.parent
-
-pub shape_of-count-then-alive : goal.shape_of-count-then-alive
-shape_of-count-then-alive c = c.link-s.auto.count
-
-pub shape_of-sum-then-alive : goal.shape_of-sum-then-alive
-shape_of-sum-then-alive c = c.link-s.auto.sum
-
-pub shape_of-low-then-alive : goal.shape_of-low-then-alive
-shape_of-low-then-alive c = c.gain.auto.low ∙ c.link-s.auto.low
-
-pub shape_of-up-then-alive : goal.shape_of-up-then-alive
-shape_of-up-then-alive c = c.gain.auto.up
-
-pub shape_of-touched-then-alive : goal.shape_of-touched-then-alive
-shape_of-touched-then-alive c = c.gain.auto.touched
-
-pub shape_of-listed-then-alive : goal.shape_of-listed-then-alive
-shape_of-listed-then-alive c = c.gain.auto.listed
-
 pub returns-then-alive : goal.returns-then-alive
 returns-then-alive c = let k : _ = c.requires in
     let l : _ = c.link-s.ensures in

@@ -19,27 +19,6 @@ lose-requires c = let k : _ = c.requires in
     let l : _ = c.unlink-s.ensures in
     (losing (parting k.0 k.1 k.3 (sym c.alive.ensures ∙ c.if-alive.true) l.0 l.1 l.2) l.0, k.2)
 
-pub shape_of-parent-then-alive : goal.shape_of-parent-then-alive
-shape_of-parent-then-alive c = c.unlink-s.auto.parent
-
-pub shape_of-count-then-alive : goal.shape_of-count-then-alive
-shape_of-count-then-alive c = c.unlink-s.auto.count
-
-pub shape_of-sum-then-alive : goal.shape_of-sum-then-alive
-shape_of-sum-then-alive c = c.unlink-s.auto.sum
-
-pub shape_of-low-then-alive : goal.shape_of-low-then-alive
-shape_of-low-then-alive c = c.lose.auto.low
-
-pub shape_of-up-then-alive : goal.shape_of-up-then-alive
-shape_of-up-then-alive c = c.lose.auto.up
-
-pub shape_of-touched-then-alive : goal.shape_of-touched-then-alive
-shape_of-touched-then-alive c = c.lose.auto.touched
-
-pub shape_of-listed-then-alive : goal.shape_of-listed-then-alive
-shape_of-listed-then-alive c = c.lose.auto.listed
-
 pub returns-then-alive : goal.returns-then-alive
 returns-then-alive c = let k : _ = c.requires in
     let l : _ = c.unlink-s.ensures in

@@ -1,5 +1,0 @@
--- `listing::put::number` ends: the number falls.
-use Rattle.listing.proofs.put.+number.Given as goal
-
-abbrev pub decreases-number : goal.decreases-number
-decreases-number l = l.n
