@@ -1,10 +1,11 @@
 -- What rule 26 asks of base and batch, said of the columns by rows that its search fills, and its answer read back from them.
-use mathlib.Core.Path.{◌≡◌, sym, ap₂, subst, ◌∙◌}
-use mathlib.Core.List.{List, [], ◌++◌}
+use mathlib.Core.Path.{◌≡◌, sym, ap, ap₂, subst, ◌∙◌}
+use mathlib.Core.List.{List, ◌++◌}
 use Prim.Native.Nat.{ℕ}
 use native.Mathlib.Omega.{arith}
 use lib.ListN.{length, length-append, length-map}
-use Rattle.meaning.specs.Words.{at, index_of, lowest}
+use Rattle.std.specs.Prelude.{Option}
+use Rattle.meaning.specs.Words.{at, index_of, lowest, lowest_row, row_below}
 use Rattle.meaning.specs.Rows.{EdgeColumns, Tables, edges_of}
 use Rattle.meaning.specs.Check.{mutation_above}
 use Rattle.meaning.specs.Join.{BatchTables}
@@ -13,6 +14,7 @@ use Rattle.batches.specs.Joint.{rows_in, own_edges}
 use Rattle.batches.specs.Asked.{read_base, read_batch, Above, Unlined}
 use Rattle.batches.proofs.Together.{all_long}
 use Rattle.batches.proofs.Reading.{batch_node_row}
+use Rattle.batches.proofs.Found.{stateless}
 use Rattle.batches.proofs.Own.{own_rising, own_whole, own_apart, own_26}
 
 module _ {len : ℕ} {basetime basebirth : List ℕ} {D : EdgeColumns} {position time birth : List ℕ} {E : EdgeColumns} {site node : List ℕ} (k : Above len basetime basebirth D position time birth E site node) where
@@ -52,5 +54,9 @@ module _ {len : ℕ} {basetime basebirth : List ℕ} {D : EdgeColumns} {position
     pub held_unlined : Unlined len t held position site w
     held_unlined = subst (λ x. Unlined len x held position site w) (sym et) (subst (λ x. Unlined len (basetime ++ time) x position site w) (sym held_is) (subst (λ x. Unlined len (basetime ++ time) (own_edges all E) position site x) (sym ew) own_unlined))
 
-    pub held_26 : (x : ℕ) → x ≡ lowest (overtaken held position site w) (length site) → x ≡ lowest (mutation_above (edges_of (at basebirth) D ++ edges_of (λ b. b) E) position (λ b. b) (record { site = site; node = node; derived = [] })) (length site)
-    held_26 x e = e ∙ ap₂ (λ E v. lowest (overtaken E position site v) (length site)) held_is ew ∙ own_26 len T B k.joint k.node_long k.node_in
+    pub held_26 : (x : Option ℕ) → x ≡ lowest_row (overtaken held position site w) (length site) → (derived : List ℕ) → x ≡ lowest_row (mutation_above (edges_of (at basebirth) D ++ edges_of (λ b. b) E) position (λ b. b) (record { site = site; node = node; derived = derived })) (length site)
+    held_26 x e derived =
+        e
+        ∙ ap (row_below (length site)) (ap₂ (λ E v. lowest (overtaken E position site v) (length site)) held_is ew
+        ∙ own_26 len T B k.joint k.node_long k.node_in
+        ∙ stateless (edges_of (at basebirth) D ++ edges_of (λ b. b) E) position site node derived (length site))

@@ -7,7 +7,8 @@ use Prim.Native.Nat.{ℕ, zero, suc, ◌+◌, ◌<◌, ◌≤◌}
 use native.Mathlib.Omega.{arith}
 use lib.ListN.{length}
 use borrow.Author.Tests.{eq-eqb, ne_eqb}
-use Rattle.meaning.specs.Words.{at, mem, index_of, rows, rows_from}
+use Rattle.std.specs.Prelude.{Some, None}
+use Rattle.meaning.specs.Words.{at, mem, index_of, place_in, rows, rows_from}
 use Rattle.meaning.specs.Rows.{NodeColumns, Node, births, node_at, nodes_of, node_of, time_of}
 use Rattle.meaning.specs.Join.{time_in}
 use Rattle.laws.specs.Bools.{clash, eq?, not_true, truth}
@@ -15,7 +16,7 @@ use Rattle.laws.specs.Counting.{rows_at}
 use Rattle.laws.specs.Members.{index_below, mem_cases, mem_here, mem_there, mem_nil}
 use Rattle.history.specs.Nodes.{node_left, node_right, time_none}
 use Rattle.accepted.specs.Columns.{births_of, birth_in}
-use Rattle.order.specs.Ranks.{index_none}
+use Rattle.order.specs.Ranks.{index_none, place_in-some, place_in-none}
 
 -- ---- the row of b, step by step
 
@@ -54,13 +55,17 @@ index_right b (a ∷ l) m h = ⊎_elim
 pub index_le : (b : ℕ) (l : List ℕ) → index_of b l ≤ length l
 index_le b l = ⊎_elim (λ (e : mem b l ≡ true). omega (arith, index_below b l e)) (λ (e : mem b l ≡ false). omega (arith, index_none b l e)) (truth (mem b l))
 
--- the same of the rows that the searches gave
+-- the same of what the searches gave
 module _ (base birth : List ℕ) (b : ℕ) where
-  pub row_in_base : (i : ℕ) → i ≡ index_of b base → i < length base → i ≡ index_of b (base ++ birth)
-  row_in_base i e h = e ∙ sym (index_left b base birth (index_there b base (omega arith)))
+  pub row_in_base : (i : ℕ) → Some i ≡ place_in b base → i ≡ index_of b (base ++ birth)
+  row_in_base i e = let w : _ = place_in-some b base i e in w.0 ∙ sym (index_left b base birth w.3)
 
-  pub row_in_batch : (i j : ℕ) → i ≡ index_of b base → j ≡ index_of b birth → length base ≤ i → length base + j ≡ index_of b (base ++ birth)
-  row_in_batch i j e f h = ap (λ k. length base + k) f ∙ sym (index_right b base birth (index_not_there b base (omega arith)))
+  module _ (n : None ≡ place_in b base) where
+    pub row_in_batch : (j : ℕ) → Some j ≡ place_in b birth → length base + j ≡ index_of b (base ++ birth)
+    row_in_batch j e = ap (λ k. length base + k) (place_in-some b birth j e).0 ∙ sym (index_right b base birth (place_in-none b base n).1)
+
+    pub row_nowhere : None ≡ place_in b birth → length base + length birth ≡ index_of b (base ++ birth)
+    row_nowhere e = ap (λ k. length base + k) (sym (place_in-none b birth e).0) ∙ sym (index_right b base birth (place_in-none b base n).1)
 
 -- ---- the time
 
@@ -117,14 +122,17 @@ module _ (base N : NodeColumns) (s : length base.birth ≡ length base.time) (t 
     pub time_nowhere : length N.time ≤ index_of b N.birth → time_in base N b ≡ 0
     time_nowhere k = time_past ∙ time_none (nodes_of N) b (ap (mem b) (births_of N t) ∙ index_not_there b N.birth (omega arith))
 
--- the same of the rows that the searches gave
+-- the same of what the searches gave
 module _ (base N : NodeColumns) (b : ℕ) (s : length base.birth ≡ length base.time) (t : length N.birth ≡ length N.time) where
-  pub base_time : (i : ℕ) → i ≡ index_of b base.birth → i < length base.time → at base.time i ≡ time_in base N b
-  base_time i e h = ap (at base.time) e ∙ sym (time_base base N s t b (omega arith))
+  pub base_time : (i : ℕ) → Some i ≡ place_in b base.birth → at base.time i ≡ time_in base N b
+  base_time i e = let w : _ = place_in-some b base.birth i e in ap (at base.time) w.0 ∙ sym (time_base base N s t b (omega (arith, w.0, w.1)))
 
-  module _ (i j : ℕ) (e : i ≡ index_of b base.birth) (f : j ≡ index_of b N.birth) (h : length base.time ≤ i) where
-    pub batch_time : j < length N.time → at N.time j ≡ time_in base N b
-    batch_time k = ap (at N.time) f ∙ sym (time_batch base N s t b (omega arith) (omega arith))
+  module _ (n : None ≡ place_in b base.birth) where
+    past : length base.time ≤ index_of b base.birth
+    past = omega (arith, (place_in-none b base.birth n).0)
 
-    pub no_time : length N.time ≤ j → 0 ≡ time_in base N b
-    no_time k = sym (time_nowhere base N s t b (omega arith) (omega arith))
+    pub batch_time : (j : ℕ) → Some j ≡ place_in b N.birth → at N.time j ≡ time_in base N b
+    batch_time j e = let w : _ = place_in-some b N.birth j e in ap (at N.time) w.0 ∙ sym (time_batch base N s t b past (omega (arith, w.0, w.1)))
+
+    pub no_time : None ≡ place_in b N.birth → 0 ≡ time_in base N b
+    no_time e = sym (time_nowhere base N s t b past (omega (arith, (place_in-none b N.birth e).0)))

@@ -8,10 +8,11 @@ use native.Mathlib.Omega.{arith}
 use lib.Dec.{eqb}
 use lib.ListN.{length, length-map}
 use borrow.Author.Tests.{eq-eqb, eqb-true}
-use Rattle.meaning.specs.Words.{and, at, any_below, lowest}
+use Rattle.std.specs.Prelude.{Option}
+use Rattle.meaning.specs.Words.{and, at, any_below, lowest, lowest_row, row_below}
 use Rattle.meaning.specs.Rows.{EdgeColumns}
 use Rattle.meaning.specs.Answer.{put}
-use Rattle.meaning.specs.Forest.{ancestor}
+use Rattle.meaning.specs.Forest.{Ages, ancestor}
 use Rattle.laws.specs.Bools.{bool_ext, and_of, and_yes}
 use Rattle.laws.specs.Counting.{below_of, of_below}
 use Rattle.laws.specs.Members.{at_map}
@@ -20,7 +21,7 @@ use Rattle.bridge.specs.Parents.{parent_row}
 use Rattle.order.specs.Lex.{trichotomy}
 use Rattle.order.specs.Order.{Inside}
 use Rattle.order.specs.Ranks.{Ranked}
-use Rattle.overtaking.specs.Overtaken.{over, overtaken, overtaken_row, Lined}
+use Rattle.overtaking.specs.Overtaken.{over, overtaken, overtaken_row, Lined, Ordered}
 use Rattle.batches.specs.Asked.{Unlined}
 use Rattle.batches.proofs.Fronts.{put_whole}
 
@@ -135,11 +136,19 @@ module _ {len : ℕ} {time : List ℕ} {E : EdgeColumns} {position site node : L
     nodes_are : heldnode ≡ map (at node) row
     nodes_are = en ∙ put_whole (map (at node) row) oldnode (ln ∙ sym (nodes_long E position site node row r))
 
-    pub held_lined : Lined (length position) (length time) heldsite heldnode
-    held_lined = rw (sites_are, nodes_are) (by_site_lined E position site node row r (length position) (length time) k.site_row k.node_row)
+    pub held_ordered : ((v : ℕ) → at time v < Ages) → Ordered time position heldsite heldnode
+    held_ordered young = record {
+      young = young;
+      rightwards = k.rightwards;
+      lined = rw (sites_are, nodes_are) (by_site_lined E position site node row r (length position) (length time) k.site_row k.node_row);
+      few = omega (arith, k.few);
+      few_sites = omega (arith, k.sites);
+    }
 
     pub held_long : length row ≡ length heldsite
     held_long = r.long ∙ sym (ap length sites_are ∙ sites_long E position site node row r)
 
-    pub held_lowest : (x : ℕ) → x ≡ lowest (overtaken_row E position heldsite heldnode row) (length heldsite) → x ≡ lowest (overtaken E position site node) (length site)
-    held_lowest x e = e ∙ ap₂ (λ s v. lowest (overtaken_row E position s v row) (length s)) sites_are nodes_are ∙ lowest_overtaken E position site node row r
+    pub held_lowest : (x : Option ℕ) → x ≡ lowest_row (overtaken_row E position heldsite heldnode row) (length heldsite) → x ≡ lowest_row (overtaken E position site node) (length site)
+    held_lowest x e =
+        let n : length heldsite ≡ length site = ap length sites_are ∙ sites_long E position site node row r in
+        e ∙ ap₂ row_below n (ap₂ (λ s v. lowest (overtaken_row E position s v row) (length s)) sites_are nodes_are ∙ lowest_overtaken E position site node row r)

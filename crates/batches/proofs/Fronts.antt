@@ -7,41 +7,92 @@ use native.Mathlib.Omega.{arith}
 use native.Mathlib.Numerals.{add-one}
 use lib.ListN.{length, get_or, take, drop, set, replicate, length-append, length-drop, length-replicate, get_or-append, length-set, length-map}
 use lib.Seq.{take_at, length-take-le, get_or-take}
+use borrow.Rule.Slice.PartMut.{put_mid}
+use Rattle.std.proofs.lemmas.List.{drop_at, drop-drop, append_assoc}
 use Rattle.meaning.specs.Words.{at}
 use Rattle.meaning.specs.Answer.{put}
+
+-- ---- mapped columns
+
+pub get_map : {A B : Type 0} (f : A → B) (l : List A) (i : ℕ) (d : A) (e : B) → i < length l → get_or (map f l) i e ≡ f (get_or l i d)
+get_map f [] i d e h = absurd (omega arith)
+get_map f (a ∷ l) zero d e h = refl
+get_map f (a ∷ l) (suc i) d e h = get_map f l i d e (omega arith)
 
 -- ---- a column filled from the front
 
 -- one more cell
-one_more : (s o : List ℕ) (i : ℕ) → i < length s → i < length o → set (take i s ++ drop i o) i (get_or s i 0) ≡ take (suc i) s ++ drop (suc i) o
-one_more [] o i h k = absurd (not-suc-le-zero h)
-one_more (x ∷ s) [] i h k = absurd (not-suc-le-zero k)
-one_more (x ∷ s) (y ∷ o) zero h k = refl
-one_more (x ∷ s) (y ∷ o) (suc i) h k = ap (λ (r : List ℕ). x ∷ r) (one_more s o i (le_of_suc-le-suc h) (le_of_suc-le-suc k))
+one_more : {A : Type 0} (d : A) (s o : List A) (i : ℕ) → i < length s → i < length o → set (take i s ++ drop i o) i (get_or s i d) ≡ take (suc i) s ++ drop (suc i) o
+one_more d [] o i h k = absurd (not-suc-le-zero h)
+one_more d (x ∷ s) [] i h k = absurd (not-suc-le-zero k)
+one_more d (x ∷ s) (y ∷ o) zero h k = refl
+one_more {A} d (x ∷ s) (y ∷ o) (suc i) h k = ap (λ (r : List A). x ∷ r) (one_more d s o i (le_of_suc-le-suc h) (le_of_suc-le-suc k))
 
 take_whole : {A : Type 0} (l : List A) → take (length l) l ≡ l
 take_whole [] = refl
 take_whole (a ∷ l) = ap (λ r. a ∷ r) (take_whole l)
 
 -- after i cells
-pub record Front (l old : List ℕ) (i : ℕ) (out : List ℕ) : Type 0 where
+pub record Front {A : Type 0} (l old : List A) (i : ℕ) (out : List A) : Type 0 where
   pub long : length out ≡ length old
   pub cells : out ≡ take i l ++ drop i old
 
-pub front_none : (l old : List ℕ) → Front l old 0 old
+pub front_none : {A : Type 0} (l old : List A) → Front l old 0 old
 front_none l old = record { long = refl; cells = refl }
 
-pub front_more : (l old : List ℕ) (i : ℕ) (out : List ℕ) (v : ℕ) → i < length l → i < length old → v ≡ at l i → Front l old i out → Front l old (i + 1) (set out i v)
-front_more l old i out v h k e f = record {
+front_by : {A : Type 0} (d : A) (l old : List A) (i : ℕ) (out : List A) (v : A) → i < length l → i < length old → v ≡ get_or l i d → Front l old i out → Front l old (i + 1) (set out i v)
+front_by {A} d l old i out v h k e f = record {
   long = length-set out i v ∙ f.long;
-  cells = ap (λ o. set o i v) f.cells ∙ ap (set (take i l ++ drop i old) i) e ∙ one_more l old i h k ∙ rw add-one;
+  cells = ap (λ (o : List A). set o i v) f.cells ∙ ap (set (take i l ++ drop i old) i) e ∙ one_more d l old i h k ∙ rw add-one;
 }
 
-pub front_whole : (l old : List ℕ) (i : ℕ) (out : List ℕ) → i ≡ length l → Front l old i out → out ≡ put l old
+pub front_more : (l old : List ℕ) (i : ℕ) (out : List ℕ) (v : ℕ) → i < length l → i < length old → v ≡ at l i → Front l old i out → Front l old (i + 1) (set out i v)
+front_more = front_by 0
+
+pub front_whole : {A : Type 0} (l old : List A) (i : ℕ) (out : List A) → i ≡ length l → Front l old i out → out ≡ put l old
 unfolding put
-front_whole l old i out e f = f.cells ∙ ap (λ k. take k l ++ drop k old) e ∙ ap (λ r. r ++ drop (length l) old) (take_whole l)
+front_whole {A} l old i out e f = f.cells ∙ ap (λ k. take k l ++ drop k old) e ∙ ap (λ (r : List A). r ++ drop (length l) old) (take_whole l)
+
+-- after the cells that the first i rows name
+pub record Gathered {A : Type 0} (src : List A) (rows : List ℕ) (old out : List A) (i : ℕ) : Type 0 where
+  pub few : i ≤ length rows
+  pub long : length out ≡ length old
+  pub front : (other : A) → Front (map (λ r. get_or src r other) rows) old i out
+
+module _ {A : Type 0} (src : List A) (rows : List ℕ) (old : List A) where
+  pub gather_start : Gathered src rows old old 0
+  gather_start = record { few = omega arith; long = refl; front = λ other. front_none (map (λ r. get_or src r other) rows) old }
+
+  module _ (out : List A) (i : ℕ) where
+    pub gather_next : (r : ℕ) (v : A) → r ≡ at rows i → i < length rows → length rows ≤ length old → ((other : A) → v ≡ get_or src r other) → Gathered src rows old out i → Gathered src rows old (set out i v) (i + 1)
+    gather_next r v q h k e f = record {
+      few = omega arith;
+      long = length-set out i v ∙ f.long;
+      front = λ other.
+          let l : List A = map (λ r. get_or src r other) rows in
+          let m : length l ≡ length rows = length-map rows (λ r. get_or src r other) in
+          front_by other l old i out v (omega arith) (omega arith) (e other ∙ ap (λ j. get_or src j other) q ∙ sym (get_map (λ r. get_or src r other) rows i 0 other h)) (f.front other);
+    }
+
+    pub gather_end : length rows ≤ i → Gathered src rows old out i → (other : A) → out ≡ put (map (λ r. get_or src r other) rows) old
+    gather_end h f other =
+        let m : length (map (λ r. get_or src r other) rows) ≡ length rows = length-map rows (λ r. get_or src r other) in
+        front_whole (map (λ r. get_or src r other) rows) old i out (omega (arith, f.few)) (f.front other)
 
 -- ---- joined columns
+
+-- a column is written over the front, and a second one over what follows
+pub appended : {A : Type 0} (a b old pa pb : List A) (k : ℕ) → k ≡ length b → pa ≡ a → pb ≡ b → put_mid (length a) k (pa ++ drop (length a) old) pb ≡ put (a ++ b) old
+unfolding put
+appended {A} a b old pa pb k e p q =
+    let x : List A = drop (length a) old in
+    ap (λ (l : List A). put_mid (length a) k (l ++ x) pb) p
+    ∙ ap (λ (l : List A). put_mid (length a) k (a ++ x) l) q
+    ∙ ap (λ j. put_mid (length a) j (a ++ x) b) e
+    ∙ ap₂ (λ (s t : List A). s ++ (b ++ drop (length b) t)) (take_at a x (length a) refl) (drop_at a x (length a) refl)
+    ∙ ap (λ (t : List A). a ++ (b ++ t)) (drop-drop (length b) (length a) old)
+    ∙ sym (append_assoc a b (drop (length a + length b) old))
+    ∙ ap (λ j. (a ++ b) ++ drop j old) (sym (length-append a b))
 
 module _ {A : Type 0} (d : A) (a b : List A) (i : ℕ) where
   pub get_left : i < length a → get_or (a ++ b) i d ≡ get_or a i d
@@ -54,13 +105,6 @@ module _ {A : Type 0} (d : A) (a b : List A) (i : ℕ) where
       go [] i h = let q : i ≡ i - 0 = omega arith in ap (λ k. get_or b k d) q
       go (x ∷ a) zero h = absurd (omega arith)
       go (x ∷ a) (suc i) h = let q : i - length a ≡ suc i - length (x ∷ a) = omega arith in go a i (omega arith) ∙ ap (λ k. get_or b k d) q
-
--- ---- mapped columns
-
-pub get_map : {A B : Type 0} (f : A → B) (l : List A) (i : ℕ) (d : A) (e : B) → i < length l → get_or (map f l) i e ≡ f (get_or l i d)
-get_map f [] i d e h = absurd (omega arith)
-get_map f (a ∷ l) zero d e h = refl
-get_map f (a ∷ l) (suc i) d e h = get_map f l i d e (omega arith)
 
 -- ---- a column with a list at its front
 

@@ -1,18 +1,18 @@
 -- What the test of a batch row comes to, one law for each way out of the code that tests it.
-use mathlib.Core.Path.{◌≡◌, refl, sym, ◌∙◌}
+use mathlib.Core.Path.{◌≡◌, refl, sym, ap, ◌∙◌}
 use mathlib.Core.Bool.{Bool, true, false, not}
 use mathlib.Core.List.{List}
 use Prim.Native.Nat.{ℕ, ◌+◌, ◌-◌, ◌<◌, ◌≤◌}
 use native.Mathlib.Omega.{arith}
 use lib.Dec.{leb, ltb}
-use lib.ListN.{length}
 use borrow.Author.Tests.{lt-ltb, le-ltb, le-leb, lt-leb, ltb-true, ltb-false}
-use Rattle.meaning.specs.Words.{or, at, mem, lowest}
+use Rattle.std.specs.Prelude.{Some, None, min}
+use Rattle.meaning.specs.Words.{or, at, mem, lowest, lowest_row, row_below}
 use Rattle.meaning.specs.Rows.{NodeColumns, EdgeColumns, MutationColumns}
-use Rattle.meaning.specs.Join.{batch_birth, batch_edge, batch_mutation, time_in}
-use Rattle.meaning.specs.Check.{repeated}
+use Rattle.meaning.specs.Join.{batch_edge, batch_mutation, time_in}
+use Rattle.std.proofs.Math.Nat.{min-eq_left, min-eq_right}
 use Rattle.laws.specs.Bools.{or_left, or_right}
-use Rattle.laws.specs.Counting.{lowest_le, before_lowest, lowest_passes, lowest_none, lowest_is}
+use Rattle.laws.specs.Counting.{lowest_le, before_lowest, lowest_passes, lowest_none, lowest_is, row_some, lowest_row-some, lowest_row-none}
 
 -- ---- two tests together
 
@@ -38,14 +38,42 @@ module _ (f g : ℕ → Bool) (n : ℕ) where
           q ∙ sym (lowest_none either n (λ j k. neither j (omega arith) (omega arith)))
 
 -- 22 by two searches: for a row whose birth the base has, and for one that an earlier row has
-module _ (base birth : List ℕ) (k t : ℕ) (p : k ≡ lowest (λ i. mem (at birth i) base) (length birth)) (q : t ≡ lowest (repeated birth) (length birth)) where
-  pub birth_known : k < t → k ≡ lowest (batch_birth base birth) (length birth)
-  unfolding batch_birth
-  birth_known h = p ∙ lowest_first (λ i. mem (at birth i) base) (repeated birth) (length birth) (omega arith)
+module _ (f g : ℕ → Bool) (n : ℕ) where
+  pub either_second : None ≡ lowest_row f n → lowest_row g n ≡ lowest_row (either f g n) n
+  either_second e =
+      let w : lowest f n ≡ n = lowest_row-none f n e in
+      ap (row_below n) (lowest_second f g n (omega (arith, lowest_le g n, w)))
 
-  pub birth_repeated : t ≤ k → t ≡ lowest (batch_birth base birth) (length birth)
-  unfolding batch_birth
-  birth_repeated h = q ∙ lowest_second (λ i. mem (at birth i) base) (repeated birth) (length birth) (omega arith)
+  pub either_first : None ≡ lowest_row g n → lowest_row f n ≡ lowest_row (either f g n) n
+  either_first e =
+      let w : lowest g n ≡ n = lowest_row-none g n e in
+      go (ltb (lowest f n) n) refl w
+    where
+      go : (t : Bool) → ltb (lowest f n) n ≡ t → lowest g n ≡ n → lowest_row f n ≡ lowest_row (either f g n) n
+      go true q w = let l : lowest f n < n = ltb-true _ _ q in ap (row_below n) (lowest_first f g n (omega (arith, w)))
+      go false q w =
+          let l : n ≤ lowest f n = ltb-false _ _ q in
+          let k : lowest f n ≡ lowest g n = omega (arith, w, lowest_le f n) in
+          ap (row_below n) (k ∙ lowest_second f g n (omega (arith, k)))
+
+  pub either_lower : (a b : ℕ) → Some a ≡ lowest_row f n → Some b ≡ lowest_row g n → Some (min a b) ≡ lowest_row (either f g n) n
+  either_lower a b p q =
+      let v : (a < n) × (f a ≡ true) × (a ≡ lowest f n) = lowest_row-some f n a p in
+      let w : (b < n) × (g b ≡ true) × (b ≡ lowest g n) = lowest_row-some g n b q in
+      go (ltb a b) refl v.0 v.2 w.0 w.2
+    where
+      some_lowest : (i : ℕ) → i ≡ lowest (either f g n) n → i < n → Some i ≡ lowest_row (either f g n) n
+      some_lowest i e l = let k : lowest (either f g n) n < n = omega (arith, e) in ap (λ (x : ℕ). Some x) e ∙ sym (row_some k)
+
+      go : (t : Bool) → ltb a b ≡ t → a < n → a ≡ lowest f n → b < n → b ≡ lowest g n → Some (min a b) ≡ lowest_row (either f g n) n
+      go true e h v k w =
+          let l : a ≤ b = omega (arith, ltb-true a b e) in
+          let m : min a b ≡ lowest (either f g n) n = min-eq_left l ∙ v ∙ lowest_first f g n (omega (arith, ltb-true a b e, v, w)) in
+          let z : min a b ≡ a = min-eq_left l in some_lowest (min a b) m (omega (arith, z))
+      go false e h v k w =
+          let l : b ≤ a = ltb-false a b e in
+          let m : min a b ≡ lowest (either f g n) n = min-eq_right l ∙ w ∙ lowest_second f g n (omega (arith, l, v, w)) in
+          let z : min a b ≡ b = min-eq_right l in some_lowest (min a b) m (omega (arith, z))
 
 -- ---- rule 21
 

@@ -6,7 +6,7 @@ use Rattle.meaning.specs.Answer.{limits}
 use Rattle.meaning.specs.Check.{edge_shared}
 use Rattle.meaning.specs.Join.{BatchTables}
 use Rattle.bridge.specs.Columns.{Apart}
-use Rattle.meaning.specs.Even.{EvenEdges}
+use Rattle.meaning.specs.Even.{EvenEdges, EvenMutations}
 use Rattle.ancestry.specs.Column.{Rising}
 use Rattle.ancestry.specs.Index.{Whole}
 use Rattle.overtaking.specs.Overtaken.{Rightwards}
@@ -48,7 +48,7 @@ pub record Unlined (len : ℕ) (time : List ℕ) (E : EdgeColumns) (position sit
 pub record BatchEven (B : BatchTables) : Type 0 where
   pub births : length B.nodes.birth ≡ length B.nodes.time
   pub edges : EvenEdges B.edges
-  pub mutated : length B.muts.node ≡ length B.muts.site
+  pub mutated : EvenMutations B.muts
 
 -- what 22 to 26 ask of a base that 1 to 10 have passed and a batch that 20 and 21 have
 pub record BatchAsked (T : Tables) (B : BatchTables) : Type 0 where

@@ -1,78 +1,60 @@
 // Rules 20 and 21: the lengths of the batch's columns, and of base and batch together.
 ghost use Rattle.std.specs.Prelude.{◌≡◌, ◌+◌, ltb};
+ghost use Rattle.meaning.specs.Columns.{lent_in, batch_in};
 ghost use Rattle.meaning.specs.Answer.{limits};
-ghost use Rattle.batches.specs.Lengths.{batch_ragged, batch_large};
+ghost use Rattle.rules.specs.Lengths.{table_of};
+ghost use Rattle.batches.specs.Lengths.{ragged_of, large_of};
 
+use meaning::columns::{Batch, Lent};
 use meaning::{EdgeTable, MutationTable, NodeTable};
 
-// 20: the lowest batch table whose columns differ in length, or 0.
-pub fn ragged_batch(
-    time: usize,
-    birth: usize,
-    population: usize,
-    left: usize,
-    right: usize,
-    parent: usize,
-    child: usize,
-    site: usize,
-    node: usize,
-    derived: usize,
-) -> usize
-    ensures { result ≡ batch_ragged time birth population left right parent child site node derived }
+// 20: the lowest batch table whose columns differ in length.
+pub fn ragged_batch(batch: Batch) -> Option<usize>
+    ensures { result ≡ table_of (ragged_of (batch_in batch.entry)) }
 {
-    if birth != time {
-        return NodeTable::NUMBER;
+    if batch.birth.len() != batch.time.len() {
+        return Some(NodeTable::NUMBER);
     }
-    if population != time {
-        return NodeTable::NUMBER;
+    if batch.population.len() != batch.time.len() {
+        return Some(NodeTable::NUMBER);
     }
-    if right != left {
-        return EdgeTable::NUMBER;
+    if batch.right.len() != batch.left.len() {
+        return Some(EdgeTable::NUMBER);
     }
-    if parent != left {
-        return EdgeTable::NUMBER;
+    if batch.parent.len() != batch.left.len() {
+        return Some(EdgeTable::NUMBER);
     }
-    if child != left {
-        return EdgeTable::NUMBER;
+    if batch.child.len() != batch.left.len() {
+        return Some(EdgeTable::NUMBER);
     }
-    if node != site {
-        return MutationTable::NUMBER;
+    if batch.node.len() != batch.site.len() {
+        return Some(MutationTable::NUMBER);
     }
-    if derived != site {
-        return MutationTable::NUMBER;
+    if batch.derived.len() != batch.site.len() {
+        return Some(MutationTable::NUMBER);
     }
-    0
+    None
 }
 
 // Whether a and b rows together are more than the limit.
 fn passes(most: usize, a: usize, b: usize) -> bool
     ensures { result ≡ ltb most (a + b) }
 {
-    if most < a {
-        return true;
-    }
-    most - a < b
+    most < a || most - a < b
 }
 
-// 21: the lowest table that base and batch together make too long, or 0.
-pub fn large_batch(
-    basenodes: usize,
-    baseedges: usize,
-    basemutations: usize,
-    nodes: usize,
-    edges: usize,
-    mutations: usize,
-) -> usize
-    ensures { result ≡ batch_large limits basenodes baseedges basemutations nodes edges mutations }
+// 21: the lowest table that base and batch together make too long.
+pub fn large_batch(base: Lent, batch: Batch) -> Option<usize>
+    ensures { result ≡ table_of (large_of limits (lent_in base.entry) (batch_in batch.entry)) }
 {
-    if passes(NodeTable::MOST, basenodes, nodes) {
-        return NodeTable::NUMBER;
+    if passes(NodeTable::MOST, base.time.len(), batch.time.len()) {
+        return Some(NodeTable::NUMBER);
     }
-    if passes(EdgeTable::MOST, baseedges, edges) {
-        return EdgeTable::NUMBER;
+    if passes(EdgeTable::MOST, base.left.len(), batch.left.len()) {
+        return Some(EdgeTable::NUMBER);
     }
-    if passes(MutationTable::MOST, basemutations, mutations) {
-        return MutationTable::NUMBER;
+    if passes(MutationTable::MOST, base.site.len(), batch.site.len()) {
+        return Some(MutationTable::NUMBER);
     }
-    0
+    None
 }

@@ -2,29 +2,29 @@
 use mathlib.Core.Path.{◌≡◌, refl, sym, ap, ◌∙◌}
 use mathlib.Core.Bool.{Bool, true, false}
 use mathlib.Core.List.{[]}
-use Prim.Native.Nat.{ℕ, zero, suc, ◌+◌, ◌<◌, ◌≤◌}
+use Prim.Native.Nat.{ℕ, ◌+◌}
 use lib.Dec.{eqb, ltb}
 use lib.ListN.{length}
-use borrow.Author.Tests.{lt-ltb, le-ltb}
 use Rattle.meaning.specs.declared.Refusal.{Refusal}
 use Rattle.meaning.specs.Answer.{Checked}
 use Rattle.std.specs.Prelude.{Ok, Err}
 use Rattle.meaning.specs.Words.{lowest}
 use Rattle.meaning.specs.Rows.{Tables}
-use Rattle.meaning.specs.Answer.{Answer, answer, done, limits, refuse, refuse_row, accepted, refusal_of, checked_of}
-use Rattle.meaning.specs.Lent.{no_rows_written, fit_then, block_then, counts_by, cells_by}
+use Rattle.meaning.specs.Answer.{Answer, done, limits, refuse, refuse_row, accepted, room, lacks, refusal_of, checked_of}
+use Rattle.meaning.specs.Lent.{Tabled, fit_then, block_then, counts_by, cells_by}
 use Rattle.meaning.specs.Check.{check_then}
-use Rattle.meaning.specs.Join.{BatchTables, JoinOutcome, join_end, join_fit, batch_then, joined, batch_shapes, batch_sizes, batch_rules, joining}
+use Rattle.meaning.specs.Join.{BatchTables, JoinOutcome, joined_of, join_end, join_fit, batch_then, joined, batch_shapes, batch_sizes, batch_rules, joining}
 use Rattle.accepted.specs.Refusals.{of_done}
 use Rattle.accepted.specs.Endings.{join_refused}
 use Rattle.accepted.specs.Rooms.{Fits, fits_of}
 use Rattle.accepted.specs.Checked.{sound_of}
 use Rattle.accepted.specs.Batches.{batch_sound_of}
 use Rattle.checker.specs.Then.{after}
-use Rattle.checker.proofs.After.{Hands, hands, after_sound, after_refused, tables_after, refused, stops, goes_on, was_sound}
-use Rattle.writing.specs.Room.{Needs, Lent, needs_of, lent_by, room_of, room_answer, room_answer-is}
+use Rattle.checker.proofs.After.{Hands, hands, after_refused, tables_after, refused, stops, goes_on, was_sound}
+use Rattle.writing.specs.Room.{needs_of, lent_by}
+use Rattle.writing.specs.Block.{room_within, room_within-is}
+use Rattle.writing.specs.declared.Needs.{Needs}
 use Rattle.joiner.specs.Joinable.{Joinable}
-use Rattle.joiner.specs.Room.{join_room}
 use Rattle.joiner.specs.Outcome.{after_checks, joining_by}
 use Rattle.joiner.proofs.Result.{nodes_count, edges_count, sites_count, muts_count}
 
@@ -66,32 +66,10 @@ checks_on L T B a rest =
 
 -- ---- after the checks: the room
 
--- 13 by numbers
-fit_room : (new out : Tables) (cells : ℕ) → join_fit limits new out cells ≡ join_room (needs_of new []) (lent_by out []) cells
-unfolding join_fit join_room
-fit_room new out cells =
-    ap (fit_then limits new out) (sym (after_sound (block_then cells done)))
-    ∙ fit_on new out done (block_then cells done)
-    ∙ ap (λ a. after a (block_then cells done)) (room_answer-is new [] out [])
-
--- the three ways out of the search for room
-module _ (n : Needs) (l : Lent) (cells : ℕ) where
-  pub table_lacks : (t : ℕ) → (t ≡ 0 → ⊥) → room_of t ≡ room_answer n l → room_of t ≡ join_room n l cells
-  unfolding join_room room_of accepted
-  table_lacks zero z e = absurd (z refl)
-  table_lacks (suc t) z e = e ∙ sym (after_refused (block_then cells done) (ap accepted (sym e)))
-
-  tables_fit : (t : ℕ) → t ≡ 0 → room_of t ≡ room_answer n l → join_room n l cells ≡ block_then cells done
-  unfolding join_room room_of
-  tables_fit t z e = ap (λ a. after a (block_then cells done)) (sym e ∙ ap room_of z) ∙ after_sound (block_then cells done)
-
-  pub block_short : (t : ℕ) → t ≡ 0 → room_of t ≡ room_answer n l → cells < 4 → room_of 7 ≡ join_room n l cells
-  unfolding block_then refuse room_of
-  block_short t z e h = sym (tables_fit t z e ∙ rw (lt-ltb cells 4 h, refuse))
-
-  pub all_fit : (t : ℕ) → t ≡ 0 → room_of t ≡ room_answer n l → 4 ≤ cells → room_of 0 ≡ join_room n l cells
-  unfolding block_then refuse room_of
-  all_fit t z e h = sym (tables_fit t z e ∙ rw (le-ltb cells 4 h, refuse))
+-- 13 by numbers: a join has no node map
+fit_room : (new out : Tables) (cells : ℕ) → join_fit limits new out cells ≡ room_within (needs_of new []) (lent_by out []) cells
+unfolding join_fit refuse lacks room
+fit_room new out cells = room_within-is new [] out [] cells
 
 -- the rows of the result, by those of base and batch
 abbrev pub needs_in : Tables → BatchTables → Needs
@@ -103,36 +81,33 @@ needs_in T B = record {
   rows = 0;
 }
 
-module _ (L : ℕ) (T : Tables) (B : BatchTables) (k : Joinable L T B) (out : Tables) (cells : ℕ) (t : ℕ) (e : room_of t ≡ join_room (needs_in T B) (lent_by out []) cells) where
-  answer_is : join_fit limits (joined L T B) out cells ≡ room_of t
+module _ (L : ℕ) (T : Tables) (B : BatchTables) (k : Joinable L T B) (out : Tables) (cells : ℕ) (s : Checked) (e : checked_of s ≡ room_within (needs_in T B) (lent_by out []) cells) where
+  answer_is : join_fit limits (joined L T B) out cells ≡ checked_of s
   answer_is =
       fit_room (joined L T B) out cells
-      ∙ ap (λ (n : Needs). join_room n (lent_by out []) cells) (λ i. record { nodes = nodes_count L T B k i; edges = edges_count L T B k i; sites = sites_count L T B k i; mutations = muts_count L T B k i; rows = 0 })
+      ∙ ap (λ (n : Needs). room_within n (lent_by out []) cells) (λ i. record { nodes = nodes_count L T B k i; edges = edges_count L T B k i; sites = sites_count L T B k i; mutations = muts_count L T B k i; rows = 0 })
       ∙ sym e
 
   -- a table or the block without room: nothing is written
-  pub stored_refused : (t ≡ 0 → ⊥) → record { answer = answer 13 t; counts = no_rows_written; cells = out } ≡ after_checks L T B out cells
-  unfolding after_checks room_of accepted
-  stored_refused z = sym (ap (λ (a : Answer). join_end a (joined L T B) out) (answer_is ∙ named t z) ∙ join_refused (answer 13 t) refl (joined L T B) out)
-    where
-      named : (t : ℕ) → (t ≡ 0 → ⊥) → room_of t ≡ answer 13 t
-      named zero z = absurd (z refl)
-      named (suc t) z = refl
+  pub stored_refused : (r : Refusal) → s ≡ Err r → (o : Tabled) → o ≡ Err r → joined_of o out ≡ after_checks L T B out cells
+  unfolding after_checks
+  stored_refused r q o p =
+      ap (λ (x : Tabled). joined_of x out) p
+      ∙ sym (ap (λ (a : Answer). join_end a (joined L T B) out) (answer_is ∙ ap checked_of q) ∙ join_refused (refusal_of r) (refused r) (joined L T B) out)
 
-  answer_done : t ≡ 0 → join_fit limits (joined L T B) out cells ≡ done
-  unfolding room_of
-  answer_done z = answer_is ∙ ap room_of z
+  answer_done : s ≡ Ok tt → join_fit limits (joined L T B) out cells ≡ done
+  answer_done q = answer_is ∙ ap checked_of q
 
   -- so the tables have room
-  pub stored_fits : t ≡ 0 → Fits limits (joined L T B) out
+  pub stored_fits : s ≡ Ok tt → Fits limits (joined L T B) out
   unfolding join_fit
-  stored_fits z = (fits_of limits (joined L T B) out (block_then cells done) (of_done (join_fit limits (joined L T B) out cells) (answer_done z))).0
+  stored_fits q = (fits_of limits (joined L T B) out (block_then cells done) (of_done (join_fit limits (joined L T B) out cells) (answer_done q))).0
 
   -- all fits: the result stands at the front
-  pub stored_done : t ≡ 0 → (now : Tables) → now ≡ cells_by done (joined L T B) out → record { answer = done; counts = record { nodes = length T.nodes.time + length B.nodes.time; edges = length T.edges.left + length B.edges.left; sites = length T.sites.position; mutations = length T.muts.site + length B.muts.site }; cells = now } ≡ after_checks L T B out cells
+  pub stored_done : s ≡ Ok tt → (now : Tables) → now ≡ cells_by done (joined L T B) out → record { answer = done; counts = record { nodes = length T.nodes.time + length B.nodes.time; edges = length T.edges.left + length B.edges.left; sites = length T.sites.position; mutations = length T.muts.site + length B.muts.site }; cells = now } ≡ after_checks L T B out cells
   unfolding after_checks join_end counts_by accepted
-  stored_done z now w = sym (
-      ap (λ (a : Answer). join_end a (joined L T B) out) (answer_done z)
+  stored_done q now w = sym (
+      ap (λ (a : Answer). join_end a (joined L T B) out) (answer_done q)
       ∙ (λ i. record { answer = done; counts = record { nodes = nodes_count L T B k i; edges = edges_count L T B k i; sites = sites_count L T B k i; mutations = muts_count L T B k i }; cells = sym w i })
       )
 
@@ -154,8 +129,8 @@ module _ (L : ℕ) (T : Tables) (B : BatchTables) (c : Checked) (e : checked_of 
       record { sound = s.0; batch = (batch_sound_of limits L T B done s.1).0 }
 
   module _ (out : Tables) (cells : ℕ) where
-    pub call_refused : (r : Refusal) → c ≡ Err r → ◌≡◌ {A = JoinOutcome} (record { answer = refusal_of r; counts = no_rows_written; cells = out }) (joining limits L T B out cells)
-    call_refused r q = sym (
+    pub call_refused : (r : Refusal) → c ≡ Err r → (o : Tabled) → o ≡ Err r → joined_of o out ≡ joining limits L T B out cells
+    call_refused r q o p = ap (λ (x : Tabled). joined_of x out) p ∙ sym (
         joining_by L T B out cells (refusal_of r) (sym (stops (batch_then limits L T B) hand c found r q (join_fit limits (joined L T B) out cells)) ∙ ap checked_of q)
         ∙ join_refused (refusal_of r) (refused r) (joined L T B) out
         )

@@ -23,7 +23,7 @@ use Rattle.checker.proofs.Order.{refuse_done}
 use Rattle.checker.proofs.After.{Hands, hands, stops, goes_on, was_sound, after_refused, tables_after}
 use Rattle.checker.proofs.Sound.{tables_sound}
 use Rattle.checker.proofs.Rows.{apart, rising, rightwards}
-use Rattle.batches.specs.Lengths.{batch_ragged, batch_large}
+use Rattle.batches.specs.Lengths.{batch_ragged, batch_large, ragged_of, large_of}
 use Rattle.batches.specs.Asked.{read_base, BatchEven, BatchAsked}
 use Rattle.batches.specs.Aged.{aged_nodes, aged_batch, rules_aged}
 use Rattle.joint.specs.Asked.{BaseAsked}
@@ -43,16 +43,6 @@ first_of_three n false false false rest = refl
 
 -- ---- 20 and 21 by lengths
 
--- of a batch that has so many populations
-abbrev pub ragged_by : ℕ → BatchTables → ℕ
-ragged_by populations B = batch_ragged (length B.nodes.time) (length B.nodes.birth) populations (length B.edges.left) (length B.edges.right) (length B.edges.parent) (length B.edges.child) (length B.muts.site) (length B.muts.node) (length B.muts.derived)
-
-abbrev pub ragged_of : BatchTables → ℕ
-ragged_of B = ragged_by (length B.nodes.population) B
-
-abbrev pub large_of : ℕ → ℕ → ℕ → BatchTables → ℕ
-large_of nodes edges mutations B = batch_large limits nodes edges mutations (length B.nodes.time) (length B.edges.left) (length B.muts.site)
-
 shapes_by_lengths : (B : BatchTables) (rest : Answer) → batch_shapes B rest ≡ refuse_table 20 (ragged_of B) rest
 unfolding batch_shapes batch_ragged
 shapes_by_lengths B rest =
@@ -66,11 +56,11 @@ shapes_by_lengths B rest =
     (or (unlike (length B.muts.node) (length B.muts.site)) (unlike (length B.muts.derived) (length B.muts.site)))
     rest)
 
-sizes_by_lengths : (T : Tables) (B : BatchTables) (rest : Answer) → batch_sizes limits T B rest ≡ refuse_table 21 (large_of (length T.nodes.time) (length T.edges.left) (length T.muts.site) B) rest
+sizes_by_lengths : (T : Tables) (B : BatchTables) (rest : Answer) → batch_sizes limits T B rest ≡ refuse_table 21 (large_of limits T B) rest
 unfolding batch_sizes batch_large
 sizes_by_lengths T B rest = first_of_three 21 (ltb limits.nodes (length T.nodes.time + length B.nodes.time)) (ltb limits.edges (length T.edges.left + length B.edges.left)) (ltb limits.mutations (length T.muts.site + length B.muts.site)) rest
 
-pub by_lengths : (T : Tables) (B : BatchTables) (rest : Answer) → batch_shapes B (batch_sizes limits T B rest) ≡ refuse_table 20 (ragged_of B) (refuse_table 21 (large_of (length T.nodes.time) (length T.edges.left) (length T.muts.site) B) rest)
+pub by_lengths : (T : Tables) (B : BatchTables) (rest : Answer) → batch_shapes B (batch_sizes limits T B rest) ≡ refuse_table 20 (ragged_of B) (refuse_table 21 (large_of limits T B) rest)
 by_lengths T B rest = shapes_by_lengths B (batch_sizes limits T B rest) ∙ ap (refuse_table 20 (ragged_of B)) (sizes_by_lengths T B rest)
 
 -- ---- what 20 and 21 have found
@@ -78,10 +68,10 @@ by_lengths T B rest = shapes_by_lengths B (batch_sizes limits T B rest) ∙ ap (
 alike : (a b : ℕ) → not (eqb a b) ≡ false → a ≡ b
 alike a b h = eqb-true a b (not_no (eqb a b) h)
 
-even_of : (populations : ℕ) (B : BatchTables) (rest : Answer) → accepted (refuse_table 20 (ragged_by populations B) rest) ≡ true → BatchEven B × (accepted rest ≡ true)
+even_of : (B : BatchTables) (rest : Answer) → accepted (refuse_table 20 (ragged_of B) rest) ≡ true → BatchEven B × (accepted rest ≡ true)
 unfolding batch_ragged
-even_of populations B rest h =
-    let n : Bool = or (unlike (length B.nodes.birth) (length B.nodes.time)) (unlike populations (length B.nodes.time)) in
+even_of B rest h =
+    let n : Bool = or (unlike (length B.nodes.birth) (length B.nodes.time)) (unlike (length B.nodes.population) (length B.nodes.time)) in
     let e : Bool = or (unlike (length B.edges.right) (length B.edges.left)) (or (unlike (length B.edges.parent) (length B.edges.left)) (unlike (length B.edges.child) (length B.edges.left))) in
     let u : Bool = or (unlike (length B.muts.node) (length B.muts.site)) (unlike (length B.muts.derived) (length B.muts.site)) in
     let k : _ = ap accepted (first_of_three 20 n e u rest) ∙ h in
@@ -89,33 +79,34 @@ even_of populations B rest h =
     let two : _ = refuse_done e 20 2 _ refl one.1 in
     let four : _ = refuse_done u 20 4 rest refl two.1 in
     let edges : _ = or_no _ _ two.0 in
-    let ends : _ = or_no _ _ edges.1 in (
+    let ends : _ = or_no _ _ edges.1 in
+    let mutations : _ = or_no _ _ four.0 in (
       record {
         births = alike _ _ (or_no _ _ one.0).0;
         edges = record { right_long = alike _ _ edges.0; parent_long = alike _ _ ends.0; child_long = alike _ _ ends.1 };
-        mutated = alike _ _ (or_no _ _ four.0).0;
+        mutated = record { node_long = alike _ _ mutations.0; derived_long = alike _ _ mutations.1 };
       },
       four.1,
     )
 
-sized_of : (nodes edges mutations : ℕ) (B : BatchTables) (rest : Answer) → accepted (refuse_table 21 (large_of nodes edges mutations B) rest) ≡ true → (nodes + length B.nodes.time ≤ limits.nodes) × (edges + length B.edges.left ≤ limits.edges) × (mutations + length B.muts.site ≤ limits.mutations)
+sized_of : (T : Tables) (B : BatchTables) (rest : Answer) → accepted (refuse_table 21 (large_of limits T B) rest) ≡ true → (length T.nodes.time + length B.nodes.time ≤ limits.nodes) × (length T.edges.left + length B.edges.left ≤ limits.edges) × (length T.muts.site + length B.muts.site ≤ limits.mutations)
 unfolding batch_large
-sized_of nodes edges mutations B rest h =
-    let k : _ = ap accepted (first_of_three 21 (ltb limits.nodes (nodes + length B.nodes.time)) (ltb limits.edges (edges + length B.edges.left)) (ltb limits.mutations (mutations + length B.muts.site)) rest) ∙ h in
-    let one : _ = refuse_done (ltb limits.nodes (nodes + length B.nodes.time)) 21 1 _ refl k in
-    let two : _ = refuse_done (ltb limits.edges (edges + length B.edges.left)) 21 2 _ refl one.1 in
-    let four : _ = refuse_done (ltb limits.mutations (mutations + length B.muts.site)) 21 4 rest refl two.1 in
+sized_of T B rest h =
+    let k : _ = ap accepted (first_of_three 21 (ltb limits.nodes (length T.nodes.time + length B.nodes.time)) (ltb limits.edges (length T.edges.left + length B.edges.left)) (ltb limits.mutations (length T.muts.site + length B.muts.site)) rest) ∙ h in
+    let one : _ = refuse_done (ltb limits.nodes (length T.nodes.time + length B.nodes.time)) 21 1 _ refl k in
+    let two : _ = refuse_done (ltb limits.edges (length T.edges.left + length B.edges.left)) 21 2 _ refl one.1 in
+    let four : _ = refuse_done (ltb limits.mutations (length T.muts.site + length B.muts.site)) 21 4 rest refl two.1 in
     (ltb-false _ _ one.0, ltb-false _ _ two.0, ltb-false _ _ four.0)
 
-module _ (nodes edges mutations populations : ℕ) (B : BatchTables) where
+module _ (T : Tables) (B : BatchTables) where
   -- 20 and 21, and then what comes after
   abbrev length_rules : Answer → Answer
-  length_rules rest = refuse_table 20 (ragged_by populations B) (refuse_table 21 (large_of nodes edges mutations B) rest)
+  length_rules rest = refuse_table 20 (ragged_of B) (refuse_table 21 (large_of limits T B) rest)
 
   lengths_hand : Hands length_rules
   lengths_hand = hands length_rules (λ a rest.
-      ap (refuse_table 20 (ragged_by populations B)) (refuse_hands a rest (not (eqb (large_of nodes edges mutations B) 0)) 21 (large_of nodes edges mutations B) refl)
-      ∙ refuse_hands (refuse_table 21 (large_of nodes edges mutations B) a) rest (not (eqb (ragged_by populations B) 0)) 20 (ragged_by populations B) refl)
+      ap (refuse_table 20 (ragged_of B)) (refuse_hands a rest (not (eqb (large_of limits T B) 0)) 21 (large_of limits T B) refl)
+      ∙ refuse_hands (refuse_table 21 (large_of limits T B) a) rest (not (eqb (ragged_of B) 0)) 20 (ragged_of B) refl)
 
   module _ (s : Checked) (e : checked_of s ≡ length_rules done) where
     pub lengths_stop : (r : Refusal) → s ≡ Err r → (rest : Answer) → checked_of s ≡ length_rules rest
@@ -124,24 +115,33 @@ module _ (nodes edges mutations populations : ℕ) (B : BatchTables) where
     pub lengths_go_on : s ≡ Ok tt → (t : Checked) (rest : Answer) → checked_of t ≡ rest → checked_of t ≡ length_rules rest
     lengths_go_on q t rest f = f ∙ sym (goes_on length_rules lengths_hand s e q rest)
 
-    found_shape : s ≡ Ok tt → BatchEven B × (accepted (refuse_table 21 (large_of nodes edges mutations B) done) ≡ true)
-    found_shape q = even_of populations B (refuse_table 21 (large_of nodes edges mutations B) done) (was_sound length_rules lengths_hand s e q)
+    found_shape : s ≡ Ok tt → BatchEven B × (accepted (refuse_table 21 (large_of limits T B) done) ≡ true)
+    found_shape q = even_of B (refuse_table 21 (large_of limits T B) done) (was_sound length_rules lengths_hand s e q)
 
-    pub batch_asked : s ≡ Ok tt → (T : Tables) → nodes ≡ length T.nodes.time → edges ≡ length T.edges.left → BaseAsked T.nodes T.edges T.sites.position → BatchAsked T B
-    batch_asked q T en ee b =
+    pub batch_even : s ≡ Ok tt → BatchEven B
+    batch_even q = (found_shape q).0
+
+    pub batch_asked : s ≡ Ok tt → BaseAsked (aged_nodes T.nodes) T.edges T.sites.position → BatchAsked (read_base T.nodes.time T.nodes.birth T.edges T.sites.position) (aged_batch B)
+    batch_asked q b =
         let f : _ = found_shape q in
-        let g : _ = sized_of nodes edges mutations B done f.1 in
+        let g : _ = sized_of T B done f.1 in
         record {
           base_long = b.long;
           base_once = b.once;
           rising = b.rising;
-          shaped = f.0;
-          few = omega (arith, g.0);
-          edges = omega (arith, g.1);
+          shaped = record { births = f.0.births; edges = f.0.edges; mutated = f.0.mutated };
+          few = g.0;
+          edges = g.1;
           sites = b.sites;
           rightwards = b.rightwards;
           mutations = omega (arith, g.2);
         }
+
+    pub batch_births : s ≡ Ok tt → length B.nodes.birth ≤ 1024
+    batch_births q =
+        let f : _ = found_shape q in
+        let g : _ = sized_of T B done f.1 in
+        omega (arith, g.0, f.0.births)
 
 -- ---- 1 to 10 of the base
 
@@ -167,8 +167,8 @@ module _ (L : ℕ) (T : Tables) (t : Checked) (e : checked_of t ≡ check_then l
       }
 
   -- the rules read only nodes, edges and positions of the base, and no population
-  pub base_goes_on : t ≡ Ok tt → (B : BatchTables) (u : Checked) → checked_of u ≡ refuse_table 20 (ragged_of B) (refuse_table 21 (large_of (length T.nodes.time) (length T.edges.left) (length T.muts.site) B) (batch_rules L (read_base T.nodes.time T.nodes.birth T.edges T.sites.position) (aged_batch B) done)) → checked_of u ≡ check_then limits L T (batch_shapes B (batch_sizes limits T B (batch_rules L T B done)))
+  pub base_goes_on : t ≡ Ok tt → (B : BatchTables) (u : Checked) → checked_of u ≡ refuse_table 20 (ragged_of B) (refuse_table 21 (large_of limits T B) (batch_rules L (read_base T.nodes.time T.nodes.birth T.edges T.sites.position) (aged_batch B) done)) → checked_of u ≡ check_then limits L T (batch_shapes B (batch_sizes limits T B (batch_rules L T B done)))
   base_goes_on q B u f =
       f
-      ∙ ap (λ a. refuse_table 20 (ragged_of B) (refuse_table 21 (large_of (length T.nodes.time) (length T.edges.left) (length T.muts.site) B) a)) (rules_aged L T B done)
+      ∙ ap (λ a. refuse_table 20 (ragged_of B) (refuse_table 21 (large_of limits T B) a)) (rules_aged L T B done)
       ∙ sym (goes_on (check_then limits L T) base_hands t e q (batch_shapes B (batch_sizes limits T B (batch_rules L T B done))) ∙ by_lengths T B (batch_rules L T B done))

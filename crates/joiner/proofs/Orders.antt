@@ -9,12 +9,11 @@ use Rattle.meaning.specs.Answer.{limits, accepted, checked_of}
 use Rattle.meaning.specs.Join.{BatchTables}
 use Rattle.meaning.specs.declared.Refusal.{Refusal}
 use Rattle.meaning.specs.Answer.{Checked}
-use Rattle.std.specs.Prelude.{Ok, Err}
+use Rattle.std.specs.Prelude.{Err}
 use Rattle.laws.specs.Bools.{clash}
 use Rattle.order.specs.Ranks.{Ranked}
 use Rattle.checker.specs.Found.{TablesSound}
 use Rattle.checker.proofs.After.{refused}
-use Rattle.batches.specs.Asked.{BatchAsked}
 use Rattle.joiner.specs.Joinable.{Joinable}
 use Rattle.joiner.specs.Orders.{BirthsOrdered}
 
@@ -28,9 +27,6 @@ pub ranked_ordered : (birth by_birth : List ℕ) (c : Checked) → Ranked birth 
 ranked_ordered birth by_birth c r = record { births = λ q. r }
 
 -- ---- as many births as a column has cells
-
-pub asked_few : (T : Tables) (B : BatchTables) → BatchAsked T B → length B.nodes.birth ≤ 1024
-asked_few T B a = omega (arith, a.few, a.shaped.births)
 
 pub sound_few : (L : ℕ) (T : Tables) → TablesSound limits L T → length T.nodes.birth ≤ 1024
 sound_few L T s = omega (arith, s.sized.nodes, s.shaped.birth_long)

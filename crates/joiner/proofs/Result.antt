@@ -22,7 +22,7 @@ use Rattle.batches.specs.Asked.{read_base, read_batch}
 use Rattle.batches.specs.Aged.{joint_aged}
 use Rattle.batches.proofs.Together.{joint_rows}
 use Rattle.joint.specs.Asked.{EdgesAsked}
-use Rattle.joint.specs.Sorting.{edge_order, edges_in}
+use Rattle.joint.specs.Sorting.{edge_order, edges_by}
 use Rattle.joint.specs.Mutations.{site_order, mutations_by_site, MutationsPut, MutationsAsked}
 use Rattle.joiner.specs.Joinable.{Joinable}
 use Rattle.joint.proofs.Ordered.{joined_edges}
@@ -82,7 +82,7 @@ module _ (L : ℕ) (T : Tables) (B : BatchTables) (k : Joinable L T B) where
   joined_states = states_of T.sites k.sound.shape.states
 
   -- the edges by rows: no population decides them
-  edges_are : (joined L T B).edges ≡ edges_in (edge_order (age_table (all_times T B) (all_births T B)) (joint_edges (all_births T B) T.edges B.edges)) (joint_edges (all_births T B) T.edges B.edges)
+  edges_are : (joined L T B).edges ≡ edges_by (edge_order (age_table (all_times T B) (all_births T B)) (joint_edges (all_births T B) T.edges B.edges)) (joint_edges (all_births T B) T.edges B.edges)
   edges_are = joined_edges L T B (joint L T B k) k.batch.size.edges (base_single L T B k) (batch_single L T B k)
 
   -- so they are read off the columns of nodes and edges alone

@@ -1,5 +1,4 @@
--- What a join asks and leaves, the orders of births, and its room.
+-- What a join asks and leaves, and the orders of births.
 pub mod Joinable
-pub mod Room
 pub mod Outcome
 pub mod Orders

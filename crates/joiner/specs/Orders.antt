@@ -1,7 +1,7 @@
 -- The order of births that a check leaves.
 use Rattle.std.specs.Prelude.{◌≡◌, List, ℕ}
 use Rattle.meaning.specs.Answer.{Checked}
-use Rattle.std.specs.Prelude.{Ok, Err}
+use Rattle.std.specs.Prelude.{Ok}
 use Rattle.order.specs.Ranks.{Ranked}
 
 -- what the check of base or batch leaves where the answer r is no refusal: its nodes by birth

@@ -2,42 +2,24 @@
 
 #![tactic(auto)]
 
-ghost use Rattle.std.specs.Prelude.{◌≡◌, length};
+ghost use Rattle.std.specs.Prelude.{◌≡◌};
 ghost use Rattle.meaning.specs.Rows.{node_table, edge_table, site_table, mutation_table, tables};
 ghost use Rattle.meaning.specs.Answer.{limits};
-ghost use Rattle.meaning.specs.Join.{batch_tables, joined_of, joining};
+ghost use Rattle.meaning.specs.Columns.{lent_in, batch_in};
+ghost use Rattle.meaning.specs.Join.{joined_of, joining};
 
 pub mod checks; // 1 to 10 of the base, then 20 to 26 of the batch
 mod store;
 
+use meaning::columns::{Batch, Lent};
 use meaning::{Counts, NodeTable, Refusal};
 
 // Joining: 1 to 10 of the base, 20 to 26 of the batch, 13, or the result at the front of the lent columns.
 // `cells` is the size of the block that the caller lends for the row counts: under four, 13 with row 7.
 pub fn join(
     len: u32,
-    basetime: &[u32],
-    basebirth: &[u32],
-    basepopulation: &[u16],
-    baseleft: &[u32],
-    baseright: &[u32],
-    baseparent: &[u32],
-    basechild: &[u32],
-    position: &[u32],
-    ancestral: &[u8],
-    basesite: &[u32],
-    basenode: &[u32],
-    basederived: &[u8],
-    time: &[u32],
-    birth: &[u32],
-    population: &[u16],
-    left: &[u32],
-    right: &[u32],
-    parent: &[u32],
-    child: &[u32],
-    site: &[u32],
-    node: &[u32],
-    derived: &[u8],
+    base: Lent,
+    batch: Batch,
     out_time: &mut [u32],
     out_birth: &mut [u32],
     out_population: &mut [u16],
@@ -58,16 +40,7 @@ pub fn join(
         (edge_table out_left.new out_right.new out_parent.new out_child.new)
         (site_table out_position.new out_ancestral.new)
         (mutation_table out_site.new out_node.new out_derived.new))
-        ≡ joining limits len
-        (tables
-        (node_table basetime.now basebirth.now basepopulation.now)
-        (edge_table baseleft.now baseright.now baseparent.now basechild.now)
-        (site_table position.now ancestral.now)
-        (mutation_table basesite.now basenode.now basederived.now))
-        (batch_tables
-        (node_table time.now birth.now population.now)
-        (edge_table left.now right.now parent.now child.now)
-        (mutation_table site.now node.now derived.now))
+        ≡ joining limits len (lent_in base.entry) (batch_in batch.entry)
         (tables
         (node_table out_time.old out_birth.old out_population.old)
         (edge_table out_left.old out_right.old out_parent.old out_child.old)
@@ -77,61 +50,15 @@ pub fn join(
     // the checks leave the nodes of base and batch by birth here, for the store
     let mut base_by_birth = [0u32; NodeTable::MOST];
     let mut by_birth = [0u32; NodeTable::MOST];
-    let n = basebirth.len();
-    let m = birth.len();
-    checks::check_join(
-        len,
-        basetime,
-        basebirth,
-        basepopulation,
-        &mut base_by_birth,
-        baseleft,
-        baseright,
-        baseparent,
-        basechild,
-        position,
-        ancestral,
-        basesite,
-        basenode,
-        basederived,
-        time,
-        birth,
-        population,
-        &mut by_birth,
-        left,
-        right,
-        parent,
-        child,
-        site,
-        node,
-        derived,
-    )?;
+    let n = base.birth.len();
+    let m = batch.birth.len();
+    checks::check_join(len, base, &mut base_by_birth, batch, &mut by_birth)?;
     store::store(
         len,
-        basetime,
-        basebirth,
-        basepopulation,
+        base,
         &base_by_birth[..n],
-        baseleft,
-        baseright,
-        baseparent,
-        basechild,
-        position,
-        ancestral,
-        basesite,
-        basenode,
-        basederived,
-        time,
-        birth,
-        population,
+        batch,
         &by_birth[..m],
-        left,
-        right,
-        parent,
-        child,
-        site,
-        node,
-        derived,
         out_time,
         out_birth,
         out_population,

@@ -9,7 +9,7 @@ use Rattle.meaning.specs.Rows.{EdgeColumns}
 use Rattle.meaning.specs.Answer.{put}
 use Rattle.batches.specs.Joint.{JointPut}
 use Rattle.batches.proofs.Fronts.{part, put_over}
-use Rattle.joint.specs.Sorting.{edges_in, EdgeRoom}
+use Rattle.joint.specs.Sorting.{edges_by, EdgeRoom}
 
 -- cells read by n rows, put over a list that stood at the front
 pub over_list : (c w old mid out rows : List ℕ) (n : ℕ) → mid ≡ put w old → length w ≤ n → length rows ≡ n → n ≤ length old → out ≡ put (map (at c) rows) mid → out ≡ put (map (at c) rows) old
@@ -30,7 +30,7 @@ pub from_front : (c w old mid out new rows : List ℕ) (m : ℕ) → mid ≡ put
 from_front c w old mid out new rows m e h q f = f ∙ ap (λ x. put (map (at (c ++ x)) rows) out) (part w old mid m e h q)
 
 -- the edges' columns, of which three had parts lent
-pub edges_anew : (rows : List ℕ) (E old new : EdgeColumns) (r p c : List ℕ) (m n : ℕ) → length r ≡ m → length p ≡ m → length c ≡ m → m ≤ n → length rows ≡ n → EdgeRoom n old → JointPut (edges_in rows E) (record { left = old.left; right = r ++ drop m old.right; parent = p ++ drop m old.parent; child = c ++ drop m old.child }) new → JointPut (edges_in rows E) old new
+pub edges_anew : (rows : List ℕ) (E old new : EdgeColumns) (r p c : List ℕ) (m n : ℕ) → length r ≡ m → length p ≡ m → length c ≡ m → m ≤ n → length rows ≡ n → EdgeRoom n old → JointPut (edges_by rows E) (record { left = old.left; right = r ++ drop m old.right; parent = p ++ drop m old.parent; child = c ++ drop m old.child }) new → JointPut (edges_by rows E) old new
 edges_anew rows E old new r p c m n a b d h q k v = record {
   left = v.left;
   right = over_part E.right r old.right new.right rows m n a h q k.right v.right;

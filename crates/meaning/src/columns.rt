@@ -62,3 +62,26 @@ pub struct Lent<'a> {
     pub node: &'a [u32],
     pub derived: &'a [u8],
 }
+
+// A batch as the rules look at it: without the populations. It has no sites of its own, and its edges and mutations name births.
+#[derive(Clone, Copy)]
+pub struct BatchTables<'a> {
+    pub ages: Ages<'a>,
+    pub edges: EdgeColumns<'a>,
+    pub mutations: MutationColumns<'a>,
+}
+
+// A batch as a caller lends it: the columns of a table may differ in length.
+#[derive(Clone, Copy)]
+pub struct Batch<'a> {
+    pub time: &'a [u32],
+    pub birth: &'a [u32],
+    pub population: &'a [u16],
+    pub left: &'a [u32],
+    pub right: &'a [u32],
+    pub parent: &'a [u32],
+    pub child: &'a [u32],
+    pub site: &'a [u32],
+    pub node: &'a [u32],
+    pub derived: &'a [u8],
+}

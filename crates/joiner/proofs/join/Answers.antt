@@ -1,5 +1,6 @@
 -- `joiner::join` meets its contract: the checks' refusal, or the joining of what they pass, with the orders that they leave in two columns on the stack.
 use mathlib.Core.Path.{sym}
+use Rattle.laws.specs.Passing.{passed_on}
 use Prim.Native.Nat.{ℕ}
 use lib.ListN.{replicate, length-replicate}
 use Rattle.joiner.proofs.Entry.{joinable, call_refused, call_done}
@@ -16,22 +17,22 @@ pub check_join-requires : goal.check_join-requires
 check_join-requires c = (length-replicate {A = ℕ} 1024 0, length-replicate {A = ℕ} 1024 0)
 
 pub slice_bounds-base_by_birth-end : goal.slice_bounds-base_by_birth-end
-slice_bounds-base_by_birth-end c = still_room _ (replicate 1024 0) c.check_join.new.base_by_birth (base_few _ _ _ (joinable _ _ _ c.check_join.result c.check_join.ensures.0 c.in-Sound.is)) (length-replicate {A = ℕ} 1024 0) c.check_join.auto.base_by_birth
+slice_bounds-base_by_birth-end c = still_room _ (replicate 1024 0) c.check_join.new.base_by_birth (base_few _ _ _ (joinable _ _ _ c.check_join.result c.check_join.ensures.0 c.in_ok-check_join.was)) (length-replicate {A = ℕ} 1024 0) c.check_join.auto.base_by_birth
 
 pub slice_bounds-store-end : goal.slice_bounds-store-end
-slice_bounds-store-end c = sym (c.check_join.ensures.1.births c.in-Sound.is).long
+slice_bounds-store-end c = sym (c.check_join.ensures.1.births c.in_ok-check_join.was).long
 
 pub slice_bounds-by_birth-end : goal.slice_bounds-by_birth-end
-slice_bounds-by_birth-end c = still_room _ (replicate 1024 0) c.check_join.new.by_birth (batch_few _ _ _ (joinable _ _ _ c.check_join.result c.check_join.ensures.0 c.in-Sound.is)) (length-replicate {A = ℕ} 1024 0) c.check_join.auto.by_birth
+slice_bounds-by_birth-end c = still_room _ (replicate 1024 0) c.check_join.new.by_birth (batch_few _ _ _ (joinable _ _ _ c.check_join.result c.check_join.ensures.0 c.in_ok-check_join.was)) (length-replicate {A = ℕ} 1024 0) c.check_join.auto.by_birth
 
-pub slice_bounds-store-end-in-Sound : goal.slice_bounds-store-end-in-Sound
-slice_bounds-store-end-in-Sound c = sym (c.check_join.ensures.2.births c.in-Sound.is).long
+pub slice_bounds-store-end-2 : goal.slice_bounds-store-end-2
+slice_bounds-store-end-2 c = sym (c.check_join.ensures.2.births c.in_ok-check_join.was).long
 
 pub store-requires : goal.store-requires
-store-requires c = (joinable _ _ _ c.check_join.result c.check_join.ensures.0 c.in-Sound.is, c.check_join.ensures.1.births c.in-Sound.is, c.check_join.ensures.2.births c.in-Sound.is)
+store-requires c = (joinable _ _ _ c.check_join.result c.check_join.ensures.0 c.in_ok-check_join.was, c.check_join.ensures.1.births c.in_ok-check_join.was, c.check_join.ensures.2.births c.in_ok-check_join.was)
 
-pub returns-in-Refused : goal.returns-in-Refused
-returns-in-Refused c = call_refused _ _ _ _ c.check_join.ensures.0 _ _ _ c.in-Refused.is
+pub returns-in_err-check_join : goal.returns-in_err-check_join
+returns-in_err-check_join c = call_refused _ _ _ _ c.check_join.ensures.0 _ _ _ c.in_err-check_join.was _ (passed_on c.from_residual.ensures.1)
 
-pub returns-in-Sound : goal.returns-in-Sound
-returns-in-Sound c = call_done _ _ _ _ c.check_join.ensures.0 _ _ c.in-Sound.is _ c.store.ensures
+pub returns : goal.returns
+returns c = call_done _ _ _ _ c.check_join.ensures.0 _ _ c.in_ok-check_join.was _ c.store.ensures

@@ -1,20 +1,17 @@
 -- `first_known` meets its contract: no row passed has a number of the base.
-use borrow.Author.Rules.{rules}
 use mathlib.Core.Path.{sym, ◌∙◌}
-use Rattle.laws.specs.Counting.{sought_start, sought_hit, sought_miss, sought_none}
+use native.Mathlib.Omega.{arith}
+use Rattle.laws.specs.Counting.{sought_start, sought_miss, lowest_hit, lowest_missed}
 use Rattle.batches.proofs.births.first_known.Goals as goal
 
 pub loop-i-init : goal.loop-i-init
-loop-i-init c = (search rules, sought_start _ _)
+loop-i-init c = sought_start _ _
 
-pub known-requires : goal.known-requires
-known-requires c = c.requires
-
-pub returns-then-known : goal.returns-then-known
-returns-then-known c = sought_hit _ _ _ c.loop-i-test.true c.loop-i.invariant.1 (sym c.known.ensures ∙ c.if-known.true)
+pub returns-then-have : goal.returns-then-have
+returns-then-have c = lowest_hit _ _ _ c.loop-i-test.true c.loop-i.invariant (sym c.have.ensures ∙ c.if-have.true)
 
 pub loop-i-preserved : goal.loop-i-preserved
-loop-i-preserved c = (search rules, sought_miss _ _ _ c.loop-i-test.true c.loop-i.invariant.1 (sym c.known.ensures ∙ c.if-known.false))
+loop-i-preserved c = sought_miss _ _ _ c.loop-i-test.true c.loop-i.invariant (sym c.have.ensures ∙ c.if-have.false)
 
 pub returns : goal.returns
-returns c = sought_none _ _ _ c.loop-i.invariant.0 c.loop-i-test.false c.loop-i.invariant.1
+returns c = lowest_missed _ _ _ (omega arith) c.loop-i-test.false c.loop-i.invariant

@@ -1,12 +1,8 @@
 -- `first_known` meets its contract: no row passed has a number of the base.
-use Prim.Native.Nat.{◌≤◌, ◌-◌}
-use lib.ListN.{length}
 use Rattle.meaning.specs.Words.{at, mem}
+use lib.ListN.{length}
 use Rattle.laws.specs.Counting.{Sought}
 use Rattle.batches.proofs.births.first_known.Given as goal
 
 abbrev pub invariant-loop-i : goal.invariant-loop-i
-invariant-loop-i l = (l.i ≤ length l.l) × Sought (λ k. mem (at l.l k) l.base) (length l.l) l.i
-
-abbrev pub decreases-loop-i : goal.decreases-loop-i
-decreases-loop-i l = length l.l - l.i
+invariant-loop-i l = Sought (λ k. mem (at l.l k) l.fn.base.ages.birth.now) (length l.l) l.i

@@ -1,36 +1,15 @@
 -- `gather` meets its contract: after i cells the front of out has the cells that the first i rows name.
+use mathlib.Core.Path.{◌∙◌}
 use native.Mathlib.Omega.{arith}
-use borrow.Author.Rules.{rules}
-use mathlib.Core.Path.{◌≡◌, sym}
-use mathlib.Core.List.{map}
-use lib.ListN.{length, length-map}
-use Rattle.meaning.specs.Words.{at}
-use Rattle.batches.proofs.Fronts.{front_none, front_more, front_whole, get_map}
+use Rattle.std.proofs.lemmas.List.{get_or_default}
+use Rattle.batches.proofs.Fronts.{gather_start, gather_next, gather_end}
 use Rattle.batches.proofs.columns.gather.Goals as goal
 
 pub loop-i-init : goal.loop-i-init
-loop-i-init c = (search rules, front_none _ _)
-
-pub overflow_cast-k : goal.overflow_cast-k
-overflow_cast-k c = omega (arith, c.type_inv.idx c.loop-i.i)
-
-pub offset_bounds-src-k : goal.offset_bounds-src-k
-offset_bounds-src-k c = omega (arith, c.requires.1.row c.loop-i.i c.loop-i-test.true)
-
-pub bounds-src-k : goal.bounds-src-k
-bounds-src-k c = omega (arith, c.requires.1.row c.loop-i.i c.loop-i-test.true)
-
-pub offset_bounds-out-i : goal.offset_bounds-out-i
-offset_bounds-out-i c = omega (arith, c.loop-i.invariant.1.long, c.loop-i-test.true, c.requires.0)
-
-pub bounds-out-i : goal.bounds-out-i
-bounds-out-i c = omega (arith, c.loop-i.invariant.1.long, c.loop-i-test.true, c.requires.0)
+loop-i-init g c = gather_start _ _ _
 
 pub loop-i-preserved : goal.loop-i-preserved
-loop-i-preserved c = (search rules, front_more (map (at c.args.src.now) c.args.idx.now) _ _ _ _ (omega (arith, length-map c.args.idx.now (at c.args.src.now), c.loop-i-test.true)) (omega (arith, c.loop-i-test.true, c.requires.0)) (sym (get_map (at c.args.src.now) c.args.idx.now _ 0 0 c.loop-i-test.true)) c.loop-i.invariant.1)
-
-pub shape_of-out : goal.shape_of-out
-shape_of-out c = c.loop-i.invariant.1.long
+loop-i-preserved g c = gather_next _ _ _ c.loop-i.out c.loop-i.i c.wide.result c.index-src-wide.result c.wide.ensures c.loop-i-test.true c.requires.0 (λ other. c.index-src-wide.is ∙ get_or_default c.args.src.now c.wide.result c.index-src-wide.result other (omega (arith, c.wide.ensures, c.requires.1.row c.loop-i.i c.loop-i-test.true))) c.loop-i.invariant
 
 pub returns : goal.returns
-returns c = let q : c.loop-i.i ≡ length (map (at c.args.src.now) c.args.idx.now) = omega (arith, length-map c.args.idx.now (at c.args.src.now), c.loop-i.invariant.0, c.loop-i-test.false) in front_whole _ _ _ _ q c.loop-i.invariant.1
+returns g c = gather_end _ _ _ c.loop-i.out c.loop-i.i c.loop-i-test.false c.loop-i.invariant

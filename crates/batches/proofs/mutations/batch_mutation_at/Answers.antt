@@ -1,18 +1,11 @@
 -- `batch_mutation_at` meets its contract: each way out is one case of rule 25.
-use native.Mathlib.Omega.{arith}
 use mathlib.Core.Path.{sym, ap, ◌∙◌}
 use mathlib.Core.Bool.{not}
 use Rattle.batches.proofs.Tests.{batch_no_site, batch_node}
 use Rattle.batches.proofs.mutations.batch_mutation_at.Goals as goal
 
-pub overflow_cast-site : goal.overflow_cast-site
-overflow_cast-site c = omega (arith, c.type_inv.site c.args.i)
-
-pub returns-then-sites-site : goal.returns-then-sites-site
-returns-then-sites-site c = sym (batch_no_site _ _ _ _ c.if-sites-site.true)
-
-pub known-requires : goal.known-requires
-known-requires c = c.requires.2
+pub returns-then-sites-mutations : goal.returns-then-sites-mutations
+returns-then-sites-mutations c = sym (batch_no_site _ _ _ _ c.if-sites-mutations.true)
 
 pub returns : goal.returns
-returns c = ap not c.known.ensures ∙ sym (batch_node _ _ _ _ c.if-sites-site.false)
+returns c = ap not c.have.ensures ∙ sym (batch_node _ _ _ _ c.if-sites-mutations.false)

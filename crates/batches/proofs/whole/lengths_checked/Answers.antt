@@ -1,13 +1,13 @@
--- `lengths_checked` meets its contract: the table that the lengths give is refused, unless it is 0.
+-- `lengths_checked` meets its contract: the table that the lengths give is refused, where they give one.
 use mathlib.Core.Path.{sym, ◌∙◌}
-use Rattle.checker.proofs.Order.{table_found, table_none}
+use Rattle.rules.proofs.ByLengths.{told_table, no_table}
 use Rattle.batches.proofs.whole.lengths_checked.Goals as goal
 
-pub returns-then-t-ne0 : goal.returns-then-t-ne0
-returns-then-t-ne0 c = sym (table_found _ _ _ _ c.ragged_batch-t.ensures c.if-t-ne0.true)
+pub returns-in-Some : goal.returns-in-Some
+returns-in-Some c = sym (told_table _ _ _ _ (sym c.in-Some.is ∙ c.ragged_batch.ensures))
 
-pub returns-then-m-ne0 : goal.returns-then-m-ne0
-returns-then-m-ne0 c = sym (table_none _ _ _ _ c.ragged_batch-t.ensures c.if-t-ne0.false ∙ table_found _ _ _ _ c.large_batch-m.ensures c.if-m-ne0.true)
+pub returns-in-Some-large_batch : goal.returns-in-Some-large_batch
+returns-in-Some-large_batch c = sym (no_table _ _ _ (sym c.in_default.is ∙ c.ragged_batch.ensures) ∙ told_table _ _ _ _ (sym c.in-Some-large_batch.is ∙ c.large_batch.ensures))
 
 pub returns : goal.returns
-returns c = sym (table_none _ _ _ _ c.ragged_batch-t.ensures c.if-t-ne0.false ∙ table_none _ _ _ _ c.large_batch-m.ensures c.if-m-ne0.false)
+returns c = sym (no_table _ _ _ (sym c.in_default.is ∙ c.ragged_batch.ensures) ∙ no_table _ _ _ (sym c.in_default-large_batch.is ∙ c.large_batch.ensures))

@@ -1,10 +1,15 @@
 -- `joiner::store::write_sites` meets its contract: one column after the other.
-use mathlib.Core.Path.{ap, ◌∙◌}
-use lib.ListN.{length}
-use lib.Seq.{take-length, take_all}
+use mathlib.Core.Path.{sym, ap, ◌∙◌}
+use mathlib.Core.List.{List, ◌++◌}
+use Prim.Native.Nat.{ℕ}
+use lib.ListN.{drop, length}
 use Rattle.meaning.specs.Answer.{put}
-use native.Mathlib.Omega.{arith}
 use Rattle.joiner.proofs.store.write_sites.Goals as goal
 
 pub returns : goal.returns
-returns c = (c.copy.ensures ∙ ap (λ z. put z c.args.out_position.now) (take-length c.args.position.now), c.copy_states.ensures ∙ ap (λ z. put z c.args.out_ancestral.now) (take_all (length c.args.position.now) c.args.ancestral.now (omega (arith, c.requires.0))))
+unfolding put
+returns c = (
+  ap (λ (l : List ℕ). l ++ drop (length c.args.base.position.now) c.args.out_position.now) c.copy_from_slice.ensures.after,
+  ap (λ (l : List ℕ). l ++ drop (length c.args.base.position.now) c.args.out_ancestral.now) c.copy_from_slice-2.ensures.after
+      ∙ ap (λ j. c.args.base.ancestral.now ++ drop j c.args.out_ancestral.now) (sym c.requires.0),
+)
