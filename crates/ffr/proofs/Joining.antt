@@ -17,7 +17,8 @@ use Rattle.accepted.specs.Checked.{sound_of}
 use Rattle.accepted.specs.Batches.{batch_sound_of}
 use Rattle.accepted.specs.Rooms.{fits_of, block_long}
 use Rattle.meaning.specs.Lent.{Tabled}
-use Rattle.meaning.specs.declared.Tabled.TheVariants as code
+use Rattle.std.specs.Prelude.{Ok, Err}
+use Rattle.meaning.specs.declared.Counts as told
 use Rattle.ffr.proofs.BatchRows.{low_join}
 use Rattle.ffr.proofs.Packing.{counts_small, block_kept}
 use Rattle.ffr.specs.Told.{Counted, Tellable, Told}
@@ -35,11 +36,11 @@ module _ (L : ℕ) (T : Tables) (B : BatchTables) (out : Tables) (block : List �
   called q = ap (λ (o : JoinOutcome). call_of o block) (told q)
 
   -- a refusal's row is a number of four bytes
-  row_small : {r : Refusal} → x ≡ code.Refused r → (refusal_of r).row < 4294967296
+  row_small : {r : Refusal} → x ≡ Err r → (refusal_of r).row < 4294967296
   unfolding joining
   row_small q = omega (arith, ap (λ (o : JoinOutcome). o.answer.row) (told q), low_join L T B out (length block))
 
-  call_refused : {r : Refusal} {v : ℕ} → x ≡ code.Refused r → v ≡ packed (refusal_of r) → ◌≡◌ {A = JoinCall} (record { code = v; cells = cells; block = block }) (join_call limits L T B out block)
+  call_refused : {r : Refusal} {v : ℕ} → x ≡ Err r → v ≡ packed (refusal_of r) → ◌≡◌ {A = JoinCall} (record { code = v; cells = cells; block = block }) (join_call limits L T B out block)
   call_refused {r} q p = (λ i. record { code = p i; cells = cells; block = block_kept r (record { nodes = 0; edges = 0; sites = 0; mutations = 0 }) block i }) ∙ called q
 
   -- what comes after the check, after the batch's, and after the batch's rules
@@ -50,7 +51,7 @@ module _ (L : ℕ) (T : Tables) (B : BatchTables) (out : Tables) (block : List �
   batch_then = batch_shapes B (batch_sizes limits T B (batch_rules L T B fit_next))
 
   -- after 0 the counts are numbers of four bytes, and the block has cells for them
-  counted : {n e s m : ℕ} → x ≡ code.Done n e s m → Counted (record { nodes = n; edges = e; sites = s; mutations = m }) (length block)
+  counted : {w : told.Counts} → x ≡ Ok w → Counted (record { nodes = w.nodes; edges = w.edges; sites = w.sites; mutations = w.mutations }) (length block)
   unfolding joining join_answer
   counted q =
       let h : Accepted (check_then limits L T batch_then) = of_done (check_then limits L T batch_then) (sym (ap (λ (o : JoinOutcome). o.answer) (told q))) in
@@ -59,16 +60,16 @@ module _ (L : ℕ) (T : Tables) (B : BatchTables) (out : Tables) (block : List �
       let f : _ = fits_of limits (joined L T B) out (block_then (length block) done) b.1 in
       counts_small (check_then limits L T batch_then) (joined L T B) out (length block) _ (ap (λ (o : JoinOutcome). o.counts) (told q)) h f.0 (block_long (length block) f.1)
 
-  call_done : {n e s m : ℕ} {block' : List ℕ} → x ≡ code.Done n e s m → block' ≡ put (n ∷ e ∷ s ∷ m ∷ []) block → ◌≡◌ {A = JoinCall} (record { code = 0; cells = cells; block = block' }) (join_call limits L T B out block)
+  call_done : {w : told.Counts} {block' : List ℕ} → x ≡ Ok w → block' ≡ put (w.nodes ∷ w.edges ∷ w.sites ∷ w.mutations ∷ []) block → ◌≡◌ {A = JoinCall} (record { code = 0; cells = cells; block = block' }) (join_call limits L T B out block)
   unfolding packed block_by left_by accepted
   call_done q p = (λ i. record { code = 0; cells = cells; block = p i }) ∙ called q
 
   -- the answer fits the number and the block
   pub tellable : (y : Tabled) → x ≡ y → Tellable y (length block)
-  tellable (code.Refused r) q = row_small q
-  tellable (code.Done n e s m) q = counted q
+  tellable (Err r) q = row_small q
+  tellable (Ok w) q = counted q
 
   -- what C is told is what the call gives and leaves
   pub call_told : (y : Tabled) → x ≡ y → (v : ℕ) (block' : List ℕ) → Told y block v block' → ◌≡◌ {A = JoinCall} (record { code = v; cells = cells; block = block' }) (join_call limits L T B out block)
-  call_told (code.Refused r) q v block' t = (λ i. record { code = v; cells = cells; block = t.1 i }) ∙ call_refused q t.0
-  call_told (code.Done n e s m) q v block' t = (λ i. record { code = t.0 i; cells = cells; block = block' }) ∙ call_done q t.1
+  call_told (Err r) q v block' t = (λ i. record { code = v; cells = cells; block = t.1 i }) ∙ call_refused q t.0
+  call_told (Ok w) q v block' t = (λ i. record { code = t.0 i; cells = cells; block = block' }) ∙ call_done q t.1

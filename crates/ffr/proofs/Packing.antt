@@ -16,7 +16,8 @@ use Rattle.accepted.specs.Refusals.{Accepted, passed}
 use Rattle.accepted.specs.Rooms.{Fits}
 use Rattle.checker.proofs.After.{refused}
 use Rattle.meaning.specs.Lent.{Tabled}
-use Rattle.meaning.specs.declared.Tabled.TheVariants as code
+use Rattle.std.specs.Prelude.{Ok, Err}
+use Rattle.meaning.specs.declared.Counts as told
 use Rattle.ffr.specs.Told.{Counted, Tellable, Told}
 
 -- four cells written one after the other
@@ -51,14 +52,14 @@ counts_small a new out cells c e h f b =
 -- ---- what C is told, by the answer
 
 module _ {x : Tabled} where
-  pub row_of : {r : Refusal} (cells : ℕ) → x ≡ code.Refused r → Tellable x cells → (refusal_of r).row < 4294967296
+  pub row_of : {r : Refusal} (cells : ℕ) → x ≡ Err r → Tellable x cells → (refusal_of r).row < 4294967296
   row_of cells q t = subst (λ (y : Tabled). Tellable y cells) q t
 
-  pub told_counts : {n e s m : ℕ} (cells : ℕ) → x ≡ code.Done n e s m → Tellable x cells → Counted (record { nodes = n; edges = e; sites = s; mutations = m }) cells
+  pub told_counts : {w : told.Counts} (cells : ℕ) → x ≡ Ok w → Tellable x cells → Counted (record { nodes = w.nodes; edges = w.edges; sites = w.sites; mutations = w.mutations }) cells
   told_counts cells q t = subst (λ (y : Tabled). Tellable y cells) q t
 
-  pub refused_told : {r : Refusal} {v : ℕ} (block : List ℕ) → x ≡ code.Refused r → v ≡ packed (refusal_of r) → Told x block v block
+  pub refused_told : {r : Refusal} {v : ℕ} (block : List ℕ) → x ≡ Err r → v ≡ packed (refusal_of r) → Told x block v block
   refused_told {r} {v} block q p = subst (λ (y : Tabled). Told y block v block) (sym q) (p, refl)
 
-  pub done_told : {n e s m : ℕ} (block : List ℕ) {block' : List ℕ} → x ≡ code.Done n e s m → block' ≡ put (n ∷ e ∷ s ∷ m ∷ []) block → Told x block 0 block'
+  pub done_told : {w : told.Counts} (block : List ℕ) {block' : List ℕ} → x ≡ Ok w → block' ≡ put (w.nodes ∷ w.edges ∷ w.sites ∷ w.mutations ∷ []) block → Told x block 0 block'
   done_told block {block'} q p = subst (λ (y : Tabled). Told y block 0 block') (sym q) (refl, p)

@@ -4,9 +4,8 @@ ghost use Rattle.meaning.specs.Rows.{node_table, edge_table, site_table, mutatio
 ghost use Rattle.meaning.specs.Answer.{limits};
 ghost use Rattle.meaning.specs.Panel.{PanelCall, panel_call};
 
-use meaning::columns::Lent;
-
 use crate::pack;
+use meaning::columns::Lent;
 
 // The answer's number times 2^32 plus its row; after 0 both blocks have a byte for each fish and site, fish by fish.
 #[unsafe(no_mangle)]

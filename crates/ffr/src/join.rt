@@ -6,33 +6,34 @@ ghost use Rattle.meaning.specs.Answer.{limits};
 ghost use Rattle.meaning.specs.Called.{JoinCall, join_call};
 
 use crate::pack;
+use meaning::columns::{Batch, Lent};
 
 // The answer's number times 2^32 plus its row; after 0 the rows written in tables 1 to 4 stand in the block.
 #[unsafe(no_mangle)]
-pub extern "C" fn ffr_join_v2(
+pub extern "C" fn ffr_join_v2<'a>(
     len: u32,
-    basetime: &[u32],
-    basebirth: &[u32],
-    basepopulation: &[u16],
-    baseleft: &[u32],
-    baseright: &[u32],
-    baseparent: &[u32],
-    basechild: &[u32],
-    position: &[u32],
-    ancestral: &[u8],
-    basesite: &[u32],
-    basenode: &[u32],
-    basederived: &[u8],
-    time: &[u32],
-    birth: &[u32],
-    population: &[u16],
-    left: &[u32],
-    right: &[u32],
-    parent: &[u32],
-    child: &[u32],
-    site: &[u32],
-    node: &[u32],
-    derived: &[u8],
+    basetime: &'a [u32],
+    basebirth: &'a [u32],
+    basepopulation: &'a [u16],
+    baseleft: &'a [u32],
+    baseright: &'a [u32],
+    baseparent: &'a [u32],
+    basechild: &'a [u32],
+    position: &'a [u32],
+    ancestral: &'a [u8],
+    basesite: &'a [u32],
+    basenode: &'a [u32],
+    basederived: &'a [u8],
+    time: &'a [u32],
+    birth: &'a [u32],
+    population: &'a [u16],
+    left: &'a [u32],
+    right: &'a [u32],
+    parent: &'a [u32],
+    child: &'a [u32],
+    site: &'a [u32],
+    node: &'a [u32],
+    derived: &'a [u8],
     out_time: &mut [u32],
     out_birth: &mut [u32],
     out_population: &mut [u16],
@@ -72,20 +73,21 @@ pub extern "C" fn ffr_join_v2(
         (site_table out_position.old out_ancestral.old)
         (mutation_table out_site.old out_node.old out_derived.old)) block.old) }
 {
-    let answer = joiner::join(
-        len,
-        basetime,
-        basebirth,
-        basepopulation,
-        baseleft,
-        baseright,
-        baseparent,
-        basechild,
+    let base = Lent {
+        time: basetime,
+        birth: basebirth,
+        population: basepopulation,
+        left: baseleft,
+        right: baseright,
+        parent: baseparent,
+        child: basechild,
         position,
         ancestral,
-        basesite,
-        basenode,
-        basederived,
+        site: basesite,
+        node: basenode,
+        derived: basederived,
+    };
+    let batch = Batch {
         time,
         birth,
         population,
@@ -96,6 +98,11 @@ pub extern "C" fn ffr_join_v2(
         site,
         node,
         derived,
+    };
+    let answer = joiner::join(
+        len,
+        base,
+        batch,
         out_time,
         out_birth,
         out_population,

@@ -16,30 +16,25 @@ pub fn pack(x: Refusal) -> u64
 }
 
 // The rows written in tables 1 to 4, in the first four cells.
-fn put_block(block: &mut [u32], nodes: usize, edges: usize, sites: usize, mutations: usize)
-    requires { (4 ≤ length block.old) × (nodes < 4294967296) × (edges < 4294967296) × (sites < 4294967296) × (mutations < 4294967296) }
-    ensures { block.new ≡ put (nodes ∷ edges ∷ sites ∷ mutations ∷ []) block.old }
+fn put_block(block: &mut [u32], rows: Counts)
+    requires { (4 ≤ length block.old) × (rows.nodes < 4294967296) × (rows.edges < 4294967296) × (rows.sites < 4294967296) × (rows.mutations < 4294967296) }
+    ensures { block.new ≡ put (rows.nodes ∷ rows.edges ∷ rows.sites ∷ rows.mutations ∷ []) block.old }
 {
-    block[0] = nodes as u32;
-    block[1] = edges as u32;
-    block[2] = sites as u32;
-    block[3] = mutations as u32;
+    block[0] = rows.nodes as u32;
+    block[1] = rows.edges as u32;
+    block[2] = rows.sites as u32;
+    block[3] = rows.mutations as u32;
 }
 
 // A call's answer as one number; after 0 the rows written stand in the block.
-pub fn tell(x: Tabled, block: &mut [u32]) -> u64
+pub fn tell(x: Result<Counts, Refusal>, block: &mut [u32]) -> u64
     requires { Tellable x (length block.old) }
     ensures { Told x block.old result block.new }
 {
     match x {
         Err(r) => pack(r),
-        Ok(Counts {
-            nodes,
-            edges,
-            sites,
-            mutations,
-        }) => {
-            put_block(block, nodes, edges, sites, mutations);
+        Ok(rows) => {
+            put_block(block, rows);
             0
         }
     }

@@ -58,8 +58,10 @@ row_of-some {n} {r} {i} e = go (ltb r n) refl
   where
     some_same : {a b : ℕ} → ◌≡◌ {A = Option ℕ} (Some a) (Some b) → a ≡ b
     some_same q = cc
+
     some_not : {a : ℕ} → ◌≡◌ {A = Option ℕ} None (Some a) → ⊥
     some_not q = let z : ◌≡◌ {A = ℕ} 0 1 = cc in omega arith
+
     go : (t : Bool) → ltb r n ≡ t → (i ≡ r) × (r < n)
     go true q = (sym (some_same (sym (row_some (ltb-true r n q)) ∙ e)), ltb-true r n q)
     go false q = absurd (some_not (sym (row_none (ltb-false r n q)) ∙ e))
@@ -70,6 +72,7 @@ row_of-none {n} {r} e = go (ltb r n) refl
   where
     none_not : {a : ℕ} → ◌≡◌ {A = Option ℕ} (Some a) None → ⊥
     none_not q = let z : ◌≡◌ {A = ℕ} 0 1 = cc in omega arith
+
     go : (t : Bool) → ltb r n ≡ t → n ≤ r
     go true q = absurd (none_not (sym (row_some (ltb-true r n q)) ∙ e))
     go false q = ltb-false r n q

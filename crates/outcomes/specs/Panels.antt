@@ -3,7 +3,6 @@ use Rattle.std.specs.Prelude.{◌≡◌, refl, List, ℕ, Ok, Err}
 use Rattle.std.proofs.Common.{sym, ap, ◌∙◌}
 use Rattle.accepted.specs.Numbers.{refusal_one}
 use Rattle.meaning.specs.Panel.{Panel, PanelOutcome, panel_of}
-
 use Rattle.meaning.specs.declared.Refusal.{Refusal}
 use Rattle.outcomes.specs.Cleaning.{done_refused}
 

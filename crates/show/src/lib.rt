@@ -147,12 +147,14 @@ fn clean_and_list(
         writing::within::BLOCK,
     );
     match answer {
-        Ok(Counts {
-            nodes,
-            edges,
-            sites,
-            mutations,
-        }) => list_rows(
+        Ok(
+            Counts {
+                nodes,
+                edges,
+                sites,
+                mutations,
+            },
+        ) => list_rows(
             len,
             &out_time,
             &out_birth,

@@ -88,9 +88,9 @@ module _ {A : Type 0} (src : List A) (rows : List ℕ) (old : List A) where
         let f : ℕ → A = λ r. get_or src r other in
         let n : length (map f (take i rows)) ≡ i = length-map (take i rows) f ∙ length-take-le i rows (omega arith) in
         let m : map f (take i rows) ++ (v ∷ []) ≡ map f (take (i + 1) rows) =
-            ap (λ x. map f (take i rows) ++ (x ∷ [])) (q other ∙ ap f e)
-            ∙ sym (map-append f (take i rows) (at rows i ∷ []))
-            ∙ ap (map f) (take_more rows i (at rows i) h refl) in
+        ap (λ x. map f (take i rows) ++ (x ∷ [])) (q other ∙ ap f e)
+        ∙ sym (map-append f (take i rows) (at rows i ∷ []))
+        ∙ ap (map f) (take_more rows i (at rows i) h refl) in
         ap (λ z. set z i v) (g.front other)
         ∙ ap (λ j. set (put (map f (take i rows)) old) j v) (sym n)
         ∙ put_more (map f (take i rows)) old v (omega (arith, n))

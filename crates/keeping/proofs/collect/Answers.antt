@@ -12,10 +12,10 @@ loop-u-init c = gather_none c.args.stood.now c.args.sample.now c.args.out.now
 
 pub loop-u-preserved : goal.loop-u-preserved
 loop-u-preserved c =
-  elim c.if-is_other.branch [
-    | then-is_other w ↦ gather_hit c.args.stood.now c.args.sample.now c.args.out.now c.loop-u.out c.if-is_other.out c.loop-u.k c.if-is_other.k c.loop-u.u (omega arith) (sym c.is_other.ensures ∙ w.if-is_other.true) w.out-is w.k-is c.loop-u.invariant
-    | else-is_other w ↦ gather_miss c.args.stood.now c.args.sample.now c.args.out.now c.loop-u.out c.if-is_other.out c.loop-u.k c.if-is_other.k c.loop-u.u (sym c.is_other.ensures ∙ w.if-is_other.false) w.out-is w.k-is c.loop-u.invariant
-  ]
+    elim c.if-is_other.branch [
+      | then-is_other w ↦ gather_hit c.args.stood.now c.args.sample.now c.args.out.now c.loop-u.out c.if-is_other.out c.loop-u.k c.if-is_other.k c.loop-u.u (omega arith) (sym c.is_other.ensures ∙ w.if-is_other.true) w.out-is w.k-is c.loop-u.invariant
+      | else-is_other w ↦ gather_miss c.args.stood.now c.args.sample.now c.args.out.now c.loop-u.out c.if-is_other.out c.loop-u.k c.if-is_other.k c.loop-u.u (sym c.is_other.ensures ∙ w.if-is_other.false) w.out-is w.k-is c.loop-u.invariant
+    ]
 
 pub returns : goal.returns
 returns c = gather_all c.args.stood.now c.args.sample.now c.args.out.now c.loop-u.out c.loop-u.k c.loop-u.u (omega arith) c.loop-u-test.false c.loop-u.invariant

@@ -6,4 +6,3 @@ use Rattle.keeping.proofs.collect.Given as goal
 
 abbrev pub invariant-loop-u : goal.invariant-loop-u
 invariant-loop-u l = Gathered l.stood l.sample l.initial.out l.out l.k l.u
-

@@ -7,4 +7,3 @@ use Rattle.keeping.proofs.place.Given as goal
 
 abbrev pub invariant-loop-i : goal.invariant-loop-i
 invariant-loop-i l = (length l.nodemap ≡ length l.initial.nodemap) × PlacedFrom (take l.n l.kept) l.first l.initial.nodemap l.i l.nodemap
-

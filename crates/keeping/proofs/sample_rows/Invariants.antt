@@ -9,4 +9,3 @@ use Rattle.keeping.proofs.sample_rows.Given as goal
 
 abbrev pub invariant-loop-i : goal.invariant-loop-i
 invariant-loop-i l = (length l.srow ≡ length l.initial.srow) × (length l.sample ≡ length l.initial.sample) × (l.srow ≡ put (take l.i (sample_rows l.birth l.samples)) l.initial.srow) × Marked l.sample (take l.i (sample_rows l.birth l.samples))
-

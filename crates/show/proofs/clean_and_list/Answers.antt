@@ -23,29 +23,29 @@ list_rows-requires c = let L : ℕ = c.args.len in
     let S : List ℕ = c.args.samples.now in
     let cells : Tables = record { nodes = record { time = c.clean-answer.new.out_time; birth = c.clean-answer.new.out_birth; population = c.clean-answer.new.out_population }; edges = record { left = c.clean-answer.new.out_left; right = c.clean-answer.new.out_right; parent = c.clean-answer.new.out_parent; child = c.clean-answer.new.out_child }; sites = record { position = c.clean-answer.new.out_position; ancestral = c.clean-answer.new.out_ancestral }; muts = record { site = c.clean-answer.new.out_site; node = c.clean-answer.new.out_node; derived = c.clean-answer.new.out_derived } } in
     let nodemap : List ℕ = c.clean-answer.new.out_map in
-    let n : Counts = record { nodes = c.in-Done.nodes; edges = c.in-Done.edges; sites = c.in-Done.sites; mutations = c.in-Done.mutations } in
-    let e : record { answer = done; counts = n; cells = cells; map = nodemap } ≡ cleaning stands limits L T S blank (zeros stored_limits.nodes) 4 = ap (λ (a : Tabled). outcome_of a cells nodemap) (sym c.in-Done.is) ∙ c.clean-answer.ensures in
+    let n : Counts = record { nodes = c.in-Ok.nodes; edges = c.in-Ok.edges; sites = c.in-Ok.sites; mutations = c.in-Ok.mutations } in
+    let e : record { answer = done; counts = n; cells = cells; map = nodemap } ≡ cleaning stands limits L T S blank (zeros stored_limits.nodes) 4 = ap (λ (a : Tabled). outcome_of a cells nodemap) (sym c.in-Ok.is) ∙ c.clean-answer.ensures in
     let f : Listable n cells (length T.nodes.birth) nodemap = clean_listable L T S blank (zeros stored_limits.nodes) n cells nodemap e in
     (f.long, f.rows_long, listing_room n (length T.nodes.birth) (length c.args.out.now) f.few f.rows_few c.requires)
 
 pub refused-requires : goal.refused-requires
 refused-requires c = omega (arith, c.requires)
 
-pub returns-in-Done : goal.returns-in-Done
+pub returns-in-Ok : goal.returns-in-Ok
 unfolding blank zeros
-returns-in-Done c = let L : ℕ = c.args.len in
+returns-in-Ok c = let L : ℕ = c.args.len in
     let T : Tables = record { nodes = record { time = c.args.time.now; birth = c.args.birth.now; population = c.args.population.now }; edges = record { left = c.args.left.now; right = c.args.right.now; parent = c.args.parent.now; child = c.args.child.now }; sites = record { position = c.args.position.now; ancestral = c.args.ancestral.now }; muts = record { site = c.args.site.now; node = c.args.node.now; derived = c.args.derived.now } } in
     let S : List ℕ = c.args.samples.now in
     let cells : Tables = record { nodes = record { time = c.clean-answer.new.out_time; birth = c.clean-answer.new.out_birth; population = c.clean-answer.new.out_population }; edges = record { left = c.clean-answer.new.out_left; right = c.clean-answer.new.out_right; parent = c.clean-answer.new.out_parent; child = c.clean-answer.new.out_child }; sites = record { position = c.clean-answer.new.out_position; ancestral = c.clean-answer.new.out_ancestral }; muts = record { site = c.clean-answer.new.out_site; node = c.clean-answer.new.out_node; derived = c.clean-answer.new.out_derived } } in
     let nodemap : List ℕ = c.clean-answer.new.out_map in
-    let n : Counts = record { nodes = c.in-Done.nodes; edges = c.in-Done.edges; sites = c.in-Done.sites; mutations = c.in-Done.mutations } in
-    printed_as (clean_listed L T S n cells nodemap (ap (λ (a : Tabled). outcome_of a cells nodemap) (sym c.in-Done.is) ∙ c.clean-answer.ensures)) c.list_rows.ensures
+    let n : Counts = record { nodes = c.in-Ok.nodes; edges = c.in-Ok.edges; sites = c.in-Ok.sites; mutations = c.in-Ok.mutations } in
+    printed_as (clean_listed L T S n cells nodemap (ap (λ (a : Tabled). outcome_of a cells nodemap) (sym c.in-Ok.is) ∙ c.clean-answer.ensures)) c.list_rows.ensures
 
-pub returns-in-Refused : goal.returns-in-Refused
+pub returns-in-Err : goal.returns-in-Err
 unfolding blank zeros
-returns-in-Refused c = let L : ℕ = c.args.len in
+returns-in-Err c = let L : ℕ = c.args.len in
     let T : Tables = record { nodes = record { time = c.args.time.now; birth = c.args.birth.now; population = c.args.population.now }; edges = record { left = c.args.left.now; right = c.args.right.now; parent = c.args.parent.now; child = c.args.child.now }; sites = record { position = c.args.position.now; ancestral = c.args.ancestral.now }; muts = record { site = c.args.site.now; node = c.args.node.now; derived = c.args.derived.now } } in
     let S : List ℕ = c.args.samples.now in
     let cells : Tables = record { nodes = record { time = c.clean-answer.new.out_time; birth = c.clean-answer.new.out_birth; population = c.clean-answer.new.out_population }; edges = record { left = c.clean-answer.new.out_left; right = c.clean-answer.new.out_right; parent = c.clean-answer.new.out_parent; child = c.clean-answer.new.out_child }; sites = record { position = c.clean-answer.new.out_position; ancestral = c.clean-answer.new.out_ancestral }; muts = record { site = c.clean-answer.new.out_site; node = c.clean-answer.new.out_node; derived = c.clean-answer.new.out_derived } } in
     let nodemap : List ℕ = c.clean-answer.new.out_map in
-    printed_as (clean_refused L T S no_rows_written cells nodemap c.in-Refused.x (ap (λ (a : Tabled). outcome_of a cells nodemap) (sym c.in-Refused.is) ∙ c.clean-answer.ensures)) c.refused.ensures
+    printed_as (clean_refused L T S no_rows_written cells nodemap c.in-Err.x (ap (λ (a : Tabled). outcome_of a cells nodemap) (sym c.in-Err.is) ∙ c.clean-answer.ensures)) c.refused.ensures

@@ -5,4 +5,4 @@ use Rattle.show.proofs.Printing.{printed_as, refused_as}
 use Rattle.show.proofs.refused.Goals as goal
 
 pub returns : goal.returns
-returns c = printed_as (refused_as (ap (λ (a : Answer). a.number) c.tell-t.ensures) (ap (λ (a : Answer). a.row) c.tell-t.ensures)) c.refused_line.ensures
+returns c = printed_as (refused_as (ap (λ (a : Answer). a.number) c.from-t.ensures) (ap (λ (a : Answer). a.row) c.from-t.ensures)) c.refused_line.ensures

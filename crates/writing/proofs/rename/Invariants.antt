@@ -8,4 +8,3 @@ use Rattle.writing.proofs.rename.Given as goal
 
 abbrev pub invariant-loop-i : goal.invariant-loop-i
 invariant-loop-i l = Filled (map (renamed l.names) (take l.k l.initial.col)) l.initial.col l.col l.i
-

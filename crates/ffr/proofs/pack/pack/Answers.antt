@@ -1,4 +1,4 @@
--- `ffr::pack::pack` meets its contract: number and row are those that `meaning::tell` tells.
+-- `ffr::pack::pack` meets its contract: number and row are those that the refusal tells.
 use mathlib.Core.Path.{ap}
 use native.Mathlib.Omega.{arith}
 use Rattle.meaning.specs.Answer.{Answer}
@@ -6,8 +6,8 @@ use Rattle.meaning.specs.Called.{packed}
 use Rattle.ffr.proofs.pack.pack.Goals as goal
 
 pub overflow_add-result : goal.overflow_add-result
-overflow_add-result c = omega (arith, ap (λ (a : Answer). a.row) c.tell-t.ensures, c.requires)
+overflow_add-result c = omega (arith, ap (λ (a : Answer). a.row) c.from-t.ensures, c.requires)
 
 pub returns : goal.returns
 unfolding packed
-returns c = ap packed c.tell-t.ensures
+returns c = ap packed c.from-t.ensures

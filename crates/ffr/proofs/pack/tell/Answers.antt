@@ -4,13 +4,13 @@ use Rattle.ffr.proofs.Packing.{row_of, told_counts, refused_told, done_told}
 use Rattle.ffr.proofs.pack.tell.Goals as goal
 
 pub pack-requires : goal.pack-requires
-pack-requires c = row_of (length c.args.block.now) c.in-Refused.is c.requires
+pack-requires c = row_of (length c.args.block.now) c.in-Err.is c.requires
 
 pub put_block-requires : goal.put_block-requires
-put_block-requires c = let k : _ = told_counts (length c.args.block.now) c.in-Done.is c.requires in (k.block, k.nodes, k.edges, k.sites, k.mutations)
+put_block-requires c = let k : _ = told_counts (length c.args.block.now) c.in-Ok.is c.requires in (k.block, k.nodes, k.edges, k.sites, k.mutations)
 
-pub returns-in-Refused : goal.returns-in-Refused
-returns-in-Refused c = refused_told c.args.block.now c.in-Refused.is c.pack.ensures
+pub returns-in-Err : goal.returns-in-Err
+returns-in-Err c = refused_told c.args.block.now c.in-Err.is c.pack.ensures
 
-pub returns-in-Done : goal.returns-in-Done
-returns-in-Done c = done_told c.args.block.now c.in-Done.is c.put_block.ensures
+pub returns-in-Ok : goal.returns-in-Ok
+returns-in-Ok c = done_told c.args.block.now c.in-Ok.is c.put_block.ensures
