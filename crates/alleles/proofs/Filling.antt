@@ -1,11 +1,11 @@
 -- Filling columns with the marks and states of the mutations gone over so far.
 use mathlib.Core.Path.{◌≡◌, refl, sym, ap, ap₂, subst₂, ◌∙◌}
 use mathlib.Core.Bool.{Bool, true, false}
-use mathlib.Core.List.{List, [], ◌∷◌, ◌++◌}
+use mathlib.Core.List.{List}
 use mathlib.Core.Logic.{◌⊎◌, inl, inr}
-use Prim.Native.Nat.{ℕ, zero, suc, ◌+◌, ◌-◌, ◌<◌, ◌≤◌}
+use Prim.Native.Nat.{ℕ, suc, ◌+◌, ◌-◌, ◌<◌, ◌≤◌}
 use native.Mathlib.Omega.{arith}
-use lib.ListN.{length, drop, set, replicate, length-set, length-replicate, get_or-replicate}
+use lib.ListN.{length, set, replicate, length-set, length-replicate, get_or-replicate}
 use lib.Seq.{ext_get_or, get_or-set_same, get_or-set_other}
 use borrow.Author.Tests.{eq-eqb, ne_eqb}
 use Rattle.meaning.specs.Words.{at, any, rows_from, rows}
@@ -15,13 +15,6 @@ use Rattle.laws.specs.Bools.{eq?}
 use Rattle.laws.specs.Counting.{length_rows, get_rows}
 use Rattle.bridge.specs.Sites.{mutation_row, any_end, any_hit, any_miss, last_end, last_hit, last_miss}
 use Rattle.missing.specs.Marks.{Naming, mark, mark_after, state_after, marks_of, states_of}
-
--- a column filled up to its end is filled
-pub all_filled : (i v : ℕ) (d : List ℕ) → i ≤ length d → length d ≤ i → replicate i v ++ drop i d ≡ replicate (length d) v
-all_filled zero v [] h l = refl
-all_filled zero v (x ∷ d) h l = absurd (omega arith)
-all_filled (suc i) v [] h l = absurd (omega arith)
-all_filled (suc i) v (x ∷ d) h l = ap (λ (t : List ℕ). v ∷ t) (all_filled i v d (omega arith) (omega arith))
 
 -- rows made alike below n are the same
 pub rows_same : (f g : ℕ → ℕ) (n : ℕ) → ((v : ℕ) → v < n → f v ≡ g v) → rows f n ≡ rows g n

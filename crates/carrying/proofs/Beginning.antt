@@ -11,7 +11,6 @@ use Rattle.overtaking.specs.Known.{Known}
 use Rattle.overtaking.proofs.Knowing.{known_on, none_known}
 use Rattle.carrying.specs.Kids.{KidsKnown}
 use Rattle.carrying.specs.Fresh.{Unstamped, Forgotten}
-use Rattle.carrying.proofs.Childless.{le_or_lt}
 use Rattle.carrying.proofs.Childless as children
 
 -- a column of zeros
