@@ -5,7 +5,7 @@
 
 ghost use Rattle.std.specs.Prelude.{◌≤◌, length, vec_len, IfOk, IfSome, IsTrue, ◌≡◌};
 
-use meaning::columns::Lent;
+use meaning::columns::{Batch, Lent};
 use meaning::{Counts, Refusal, Told};
 use std::alloc::{AllocError, Global};
 use std::io::{ErrorKind, Read};
@@ -267,6 +267,40 @@ pub fn tables_hold(w: &[u32], at: usize, t: Lent<'_>) -> bool {
         && holds(t.node, column(w, at, 9))
         && holds(t.derived, column(w, at, 10))
         && holds(t.population, column(w, at, 11))
+}
+
+// The tables whose columns the pairs from a cell on name, with the populations as they are lent.
+pub fn tables<'a>(w: &'a [u32], bytes: &'a [u8], at: usize, population: &'a [u16]) -> Lent<'a> {
+    Lent {
+        time: column(w, at, 0),
+        birth: column(w, at, 1),
+        population,
+        left: column(w, at, 2),
+        right: column(w, at, 3),
+        parent: column(w, at, 4),
+        child: column(w, at, 5),
+        position: column(w, at, 6),
+        ancestral: states(bytes, w, at, 7),
+        site: column(w, at, 8),
+        node: column(w, at, 9),
+        derived: states(bytes, w, at, 10),
+    }
+}
+
+// The batch whose columns the pairs from a cell on name, with the populations as they are lent.
+pub fn batch<'a>(w: &'a [u32], bytes: &'a [u8], at: usize, population: &'a [u16]) -> Batch<'a> {
+    Batch {
+        time: column(w, at, 0),
+        birth: column(w, at, 1),
+        population,
+        left: column(w, at, 2),
+        right: column(w, at, 3),
+        parent: column(w, at, 4),
+        child: column(w, at, 5),
+        site: column(w, at, 6),
+        node: column(w, at, 7),
+        derived: states(bytes, w, at, 8),
+    }
 }
 
 // The first cells; all where there are not so many.
