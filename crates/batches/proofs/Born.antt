@@ -52,9 +52,6 @@ index_right b (a ∷ l) m h = ⊎_elim
     (λ (n : b ≡ a → ⊥). omega (arith, index_later b a (l ++ m) n, index_right b l m (not_true (mem b l) (λ k. clash (mem_there b a l k) h))))
     (eq? b a)
 
-pub index_le : (b : ℕ) (l : List ℕ) → index_of b l ≤ length l
-index_le b l = ⊎_elim (λ (e : mem b l ≡ true). omega (arith, index_below b l e)) (λ (e : mem b l ≡ false). omega (arith, index_none b l e)) (truth (mem b l))
-
 -- the same of what the searches gave
 module _ (base birth : List ℕ) (b : ℕ) where
   pub row_in_base : (i : ℕ) → Some i ≡ place_in b base → i ≡ index_of b (base ++ birth)

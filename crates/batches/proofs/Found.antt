@@ -1,55 +1,26 @@
 -- What each rule of a batch has found where it does not refuse, so that the next may be asked, and each way out of 22 to 26.
 use mathlib.Core.Path.{◌≡◌, refl, sym, ap, fun_ext, ◌∙◌}
-use mathlib.Core.Bool.{Bool, true, false, not}
+use mathlib.Core.Bool.{true, false, not}
 use mathlib.Core.List.{List, []}
 use Prim.Native.Nat.{ℕ, ◌<◌, ◌≤◌}
 use native.Mathlib.Omega.{arith}
-use lib.Dec.{eqb, leb, ltb}
+use lib.Dec.{leb, ltb}
 use lib.ListN.{length}
-use borrow.Author.Tests.{lt-ltb, le-ltb, eq-eqb, ltb-true, ltb-false, leb-false}
+use borrow.Author.Tests.{ltb-false, leb-false}
 use Rattle.std.specs.Prelude.{Some, None}
 use Rattle.meaning.specs.Words.{or, at, mem, lowest, lowest_row}
 use Rattle.meaning.specs.Rows.{Tables, Edge}
-use Rattle.meaning.specs.Answer.{Answer, answer, done, limits, refuse, refuse_row}
+use Rattle.meaning.specs.Answer.{Answer, answer, done, limits, refuse_row}
 use Rattle.meaning.specs.Check.{repeated, edge_shared, mutation_above, overtakes}
 use Rattle.meaning.specs.Join.{BatchTables, batch_birth, batch_edge, batch_mutation, batch_rules, time_in}
-use Rattle.laws.specs.Bools.{clash, or_of, or_no, not_no}
-use Rattle.laws.specs.Counting.{none_passes, of_below, lowest_row-some, lowest_row-none}
-use Rattle.bridge.specs.Columns.{Apart}
+use Rattle.laws.specs.Bools.{or_of, or_no, not_no}
 use Rattle.rules.specs.Lined.{Somewhere}
+use Rattle.checker.proofs.Rows.{apart}
+use Rattle.checker.proofs.Order.{row_found, row_none, none_found}
 use Rattle.accepted.specs.Batches.{BatchEdgeRight, edges_with}
 use Rattle.batches.specs.Joint.{Joint}
 use Rattle.batches.specs.Asked.{Above, BatchAsked}
 use Rattle.batches.specs.Aged.{joint_aged}
-
--- ---- a search's answer
-
--- one that gave none passed every row
-none_broken : (f : ℕ → Bool) (m : ℕ) → None ≡ lowest_row f m → (j : ℕ) → j < m → f j ≡ false
-none_broken f m e j k = none_passes f m j (omega (arith, lowest_row-none f m e)) k
-
-module _ (f : ℕ → Bool) (n m : ℕ) (rest : Answer) where
-  row_refused : (r : ℕ) → Some r ≡ lowest_row f m → refuse_row n f m rest ≡ answer n r
-  unfolding refuse_row refuse
-  row_refused r e =
-      let w : (r < m) × (f r ≡ true) × (r ≡ lowest f m) = lowest_row-some f m r e in
-      rw (sym w.2) (rw (lt-ltb r m w.0, refuse))
-
-  row_passed : None ≡ lowest_row f m → refuse_row n f m rest ≡ rest
-  unfolding refuse_row refuse
-  row_passed e =
-      let w : lowest f m ≡ m = lowest_row-none f m e in
-      rw w (rw (le-ltb m m (omega arith), refuse))
-
--- no birth number stands at two rows where no row has an earlier one's
-births_apart : (l : List ℕ) → ((i : ℕ) → i < length l → repeated l i ≡ false) → Apart l
-unfolding repeated
-births_apart l h i j a b e = go (ltb i j) refl (ltb j i) refl
-  where
-    go : (t : Bool) → ltb i j ≡ t → (u : Bool) → ltb j i ≡ u → i ≡ j
-    go true p u q = absurd (clash (of_below (λ k. eqb (at l k) (at l j)) j i (ltb-true i j p) (eq-eqb _ _ e)) (h j b))
-    go false p true q = absurd (clash (of_below (λ k. eqb (at l k) (at l i)) i j (ltb-true j i q) (eq-eqb _ _ (sym e))) (h i a))
-    go false p false q = omega (arith, ltb-false i j p, ltb-false j i q)
 
 -- ---- what is left of the rules
 
@@ -91,7 +62,7 @@ module _ (L : ℕ) (T : Tables) (B : BatchTables) where
   module _ (asked : BatchAsked T B) where
     -- no edge breaks 23, so every edge holds somewhere and 24 may be asked
     pub shared_asked : None ≡ lowest_row (batch_edge L T.nodes B.nodes B.edges) (length B.edges.left) → Somewhere B.edges × (length B.edges.left ≤ limits.edges)
-    shared_asked e = (record { held = λ i k. (edge_right i (none_broken _ _ e i k)).some_position }, omega (arith, asked.edges))
+    shared_asked e = (record { held = λ i k. (edge_right i (none_found _ _ e i k)).some_position }, omega (arith, asked.edges))
 
     -- none breaks 22 to 25
     module _ (b : None ≡ lowest_row (batch_birth T.nodes.birth B.nodes.birth) (length B.nodes.birth)) (e : None ≡ lowest_row (batch_edge L T.nodes B.nodes B.edges) (length B.edges.left)) where
@@ -101,11 +72,11 @@ module _ (L : ℕ) (T : Tables) (B : BatchTables) where
         long = asked.shaped.births;
         few = asked.few;
         base_once = asked.base_once;
-        once = births_apart B.nodes.birth (λ i l. (birth_parts i (none_broken _ _ b i l)).1);
-        fresh = λ i l. (birth_parts i (none_broken _ _ b i l)).0;
+        once = apart B.nodes.birth (λ i l. (birth_parts i (none_found _ _ b i l)).1);
+        fresh = λ i l. (birth_parts i (none_found _ _ b i l)).0;
         rising = asked.rising;
         even = asked.shaped.edges;
-        edge = λ i l. edge_right i (none_broken _ _ e i l);
+        edge = λ i l. edge_right i (none_found _ _ e i l);
       }
 
       module _ (s : None ≡ lowest_row (edge_shared B.edges) (length B.edges.left)) (m : None ≡ lowest_row (batch_mutation (length T.sites.position) B.nodes.birth B.muts) (length B.muts.site)) where
@@ -116,11 +87,11 @@ module _ (L : ℕ) (T : Tables) (B : BatchTables) where
           edges = asked.edges;
           sites = asked.sites;
           mutations = asked.mutations;
-          apart = λ i l. none_broken _ _ s i l;
+          apart = λ i l. none_found _ _ s i l;
           rightwards = asked.rightwards;
           node_long = asked.shaped.mutated.node_long;
-          site_row = λ i l. (mutation_parts i (none_broken _ _ m i l)).0;
-          node_in = λ i l. (mutation_parts i (none_broken _ _ m i l)).1;
+          site_row = λ i l. (mutation_parts i (none_found _ _ m i l)).0;
+          node_in = λ i l. (mutation_parts i (none_found _ _ m i l)).1;
         }
 
 -- 26 does not read the states
@@ -136,36 +107,36 @@ stateless E position site node derived n = ap (λ f. lowest f n) (fun_ext (state
 module _ (L : ℕ) (T : Tables) (B : BatchTables) where
   pub refused_22 : (r : ℕ) → Some r ≡ lowest_row (batch_birth T.nodes.birth B.nodes.birth) (length B.nodes.birth) → answer 22 r ≡ batch_rules L T B done
   unfolding batch_rules
-  refused_22 r e = sym (row_refused (batch_birth T.nodes.birth B.nodes.birth) 22 (length B.nodes.birth) _ r e)
+  refused_22 r e = sym (row_found (batch_birth T.nodes.birth B.nodes.birth) 22 (length B.nodes.birth) _ r e)
 
   module _ (b : None ≡ lowest_row (batch_birth T.nodes.birth B.nodes.birth) (length B.nodes.birth)) where
     past_22 : batch_rules L T B done ≡ refuse_row 23 (batch_edge L T.nodes B.nodes B.edges) (length B.edges.left) (from_24 T B)
     unfolding batch_rules
-    past_22 = row_passed (batch_birth T.nodes.birth B.nodes.birth) 22 (length B.nodes.birth) _ b
+    past_22 = row_none (batch_birth T.nodes.birth B.nodes.birth) 22 (length B.nodes.birth) _ b
 
     pub refused_23 : (r : ℕ) → Some r ≡ lowest_row (batch_edge L T.nodes B.nodes B.edges) (length B.edges.left) → answer 23 r ≡ batch_rules L T B done
-    refused_23 r e = sym (past_22 ∙ row_refused (batch_edge L T.nodes B.nodes B.edges) 23 (length B.edges.left) (from_24 T B) r e)
+    refused_23 r e = sym (past_22 ∙ row_found (batch_edge L T.nodes B.nodes B.edges) 23 (length B.edges.left) (from_24 T B) r e)
 
     module _ (e : None ≡ lowest_row (batch_edge L T.nodes B.nodes B.edges) (length B.edges.left)) where
       past_23 : batch_rules L T B done ≡ from_24 T B
-      past_23 = past_22 ∙ row_passed (batch_edge L T.nodes B.nodes B.edges) 23 (length B.edges.left) (from_24 T B) e
+      past_23 = past_22 ∙ row_none (batch_edge L T.nodes B.nodes B.edges) 23 (length B.edges.left) (from_24 T B) e
 
       pub refused_24 : (r : ℕ) → Some r ≡ lowest_row (edge_shared B.edges) (length B.edges.left) → answer 24 r ≡ batch_rules L T B done
-      refused_24 r h = sym (past_23 ∙ row_refused (edge_shared B.edges) 24 (length B.edges.left) (from_25 T B) r h)
+      refused_24 r h = sym (past_23 ∙ row_found (edge_shared B.edges) 24 (length B.edges.left) (from_25 T B) r h)
 
       module _ (s : None ≡ lowest_row (edge_shared B.edges) (length B.edges.left)) where
         past_24 : batch_rules L T B done ≡ from_25 T B
-        past_24 = past_23 ∙ row_passed (edge_shared B.edges) 24 (length B.edges.left) (from_25 T B) s
+        past_24 = past_23 ∙ row_none (edge_shared B.edges) 24 (length B.edges.left) (from_25 T B) s
 
         pub refused_25 : (r : ℕ) → Some r ≡ lowest_row (batch_mutation (length T.sites.position) B.nodes.birth B.muts) (length B.muts.site) → answer 25 r ≡ batch_rules L T B done
-        refused_25 r h = sym (past_24 ∙ row_refused (batch_mutation (length T.sites.position) B.nodes.birth B.muts) 25 (length B.muts.site) (only_26 T B) r h)
+        refused_25 r h = sym (past_24 ∙ row_found (batch_mutation (length T.sites.position) B.nodes.birth B.muts) 25 (length B.muts.site) (only_26 T B) r h)
 
         module _ (m : None ≡ lowest_row (batch_mutation (length T.sites.position) B.nodes.birth B.muts) (length B.muts.site)) where
           past_25 : batch_rules L T B done ≡ only_26 T B
-          past_25 = past_24 ∙ row_passed (batch_mutation (length T.sites.position) B.nodes.birth B.muts) 25 (length B.muts.site) (only_26 T B) m
+          past_25 = past_24 ∙ row_none (batch_mutation (length T.sites.position) B.nodes.birth B.muts) 25 (length B.muts.site) (only_26 T B) m
 
           pub refused_26 : (r : ℕ) → Some r ≡ lowest_row (mutation_above (edges_with T B) T.sites.position (λ b. b) B.muts) (length B.muts.site) → answer 26 r ≡ batch_rules L T B done
-          refused_26 r h = sym (past_25 ∙ row_refused (mutation_above (edges_with T B) T.sites.position (λ b. b) B.muts) 26 (length B.muts.site) done r h)
+          refused_26 r h = sym (past_25 ∙ row_found (mutation_above (edges_with T B) T.sites.position (λ b. b) B.muts) 26 (length B.muts.site) done r h)
 
           pub batch_passes : None ≡ lowest_row (mutation_above (edges_with T B) T.sites.position (λ b. b) B.muts) (length B.muts.site) → done ≡ batch_rules L T B done
-          batch_passes h = sym (past_25 ∙ row_passed (mutation_above (edges_with T B) T.sites.position (λ b. b) B.muts) 26 (length B.muts.site) done h)
+          batch_passes h = sym (past_25 ∙ row_none (mutation_above (edges_with T B) T.sites.position (λ b. b) B.muts) 26 (length B.muts.site) done h)

@@ -117,15 +117,6 @@ module _ (l old : List ℕ) (h : length l ≤ length old) where
   unfolding put
   put_front = take_at l (drop (length l) old) (length l) refl
 
--- ---- the cells that the loops write
-
-module _ (a b : List ℕ) (i : ℕ) where
-  pub first_cell : i < length a → at a i ≡ at (a ++ b) i
-  first_cell h = sym (get_left 0 a b i h)
-
-  pub second_cell : length a ≤ i → at b (i - length a) ≡ at (a ++ b) i
-  second_cell h = sym (get_right 0 a b i h)
-
 pub length_mapped : (rows names : List ℕ) (f : ℕ → ℕ) → length (rows ++ map f names) ≡ length rows + length names
 length_mapped rows names f = length-append rows (map f names) ∙ ap (λ n. length rows + n) (length-map names f)
 
