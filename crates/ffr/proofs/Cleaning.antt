@@ -18,7 +18,7 @@ use Rattle.accepted.specs.Checked.{all_sound_of}
 use Rattle.accepted.specs.Rooms.{fits_of, block_long}
 use Rattle.meaning.specs.Lent.{Tabled}
 use Rattle.std.specs.Prelude.{Ok, Err}
-use Rattle.meaning.specs.declared.Counts as told
+use Rattle.meaning.specs.declared.Counts as written
 use Rattle.ffr.proofs.Rows.{low_clean}
 use Rattle.ffr.proofs.Packing.{counts_small, block_kept}
 use Rattle.ffr.specs.Told.{Counted, Tellable, Told}
@@ -51,7 +51,7 @@ module _ (L : ℕ) (T : Tables) (S : List ℕ) (out : Tables) (out_map block : L
   fit_next = fit_then limits (cleaned stands L T S) out map_then
 
   -- after 0 the counts are numbers of four bytes, and the block has cells for them
-  counted : {w : told.Counts} → x ≡ Ok w → Counted (record { nodes = w.nodes; edges = w.edges; sites = w.sites; mutations = w.mutations }) (length block)
+  counted : {w : written.Counts} → x ≡ Ok w → Counted (record { nodes = w.nodes; edges = w.edges; sites = w.sites; mutations = w.mutations }) (length block)
   unfolding cleaning clean_answer
   counted q =
       let h : Accepted (check_all_then limits L T S fit_next) = of_done (check_all_then limits L T S fit_next) (sym (ap (λ (o : Outcome). o.answer) (told q))) in
@@ -60,7 +60,7 @@ module _ (L : ℕ) (T : Tables) (S : List ℕ) (out : Tables) (out_map block : L
       let b : _ = passed (lacks limits.nodes (out_map ∷ []) (length (node_map stands L T S))) 13 6 (block_then (length block) done) (omega arith) f.1 in
       counts_small (check_all_then limits L T S fit_next) (cleaned stands L T S) out (length block) _ (ap (λ (o : Outcome). o.counts) (told q)) h f.0 (block_long (length block) b.1)
 
-  call_done : {w : told.Counts} {block' : List ℕ} → x ≡ Ok w → block' ≡ put (w.nodes ∷ w.edges ∷ w.sites ∷ w.mutations ∷ []) block → ◌≡◌ {A = CleanCall} (record { code = 0; cells = cells; map = nodemap; block = block' }) (clean_call stands limits L T S out out_map block)
+  call_done : {w : written.Counts} {block' : List ℕ} → x ≡ Ok w → block' ≡ put (w.nodes ∷ w.edges ∷ w.sites ∷ w.mutations ∷ []) block → ◌≡◌ {A = CleanCall} (record { code = 0; cells = cells; map = nodemap; block = block' }) (clean_call stands limits L T S out out_map block)
   unfolding packed block_by left_by accepted
   call_done q p = (λ i. record { code = 0; cells = cells; map = nodemap; block = p i }) ∙ called q
 

@@ -18,7 +18,7 @@ use Rattle.accepted.specs.Batches.{batch_sound_of}
 use Rattle.accepted.specs.Rooms.{fits_of, block_long}
 use Rattle.meaning.specs.Lent.{Tabled}
 use Rattle.std.specs.Prelude.{Ok, Err}
-use Rattle.meaning.specs.declared.Counts as told
+use Rattle.meaning.specs.declared.Counts as written
 use Rattle.ffr.proofs.BatchRows.{low_join}
 use Rattle.ffr.proofs.Packing.{counts_small, block_kept}
 use Rattle.ffr.specs.Told.{Counted, Tellable, Told}
@@ -51,7 +51,7 @@ module _ (L : ℕ) (T : Tables) (B : BatchTables) (out : Tables) (block : List �
   batch_then = batch_shapes B (batch_sizes limits T B (batch_rules L T B fit_next))
 
   -- after 0 the counts are numbers of four bytes, and the block has cells for them
-  counted : {w : told.Counts} → x ≡ Ok w → Counted (record { nodes = w.nodes; edges = w.edges; sites = w.sites; mutations = w.mutations }) (length block)
+  counted : {w : written.Counts} → x ≡ Ok w → Counted (record { nodes = w.nodes; edges = w.edges; sites = w.sites; mutations = w.mutations }) (length block)
   unfolding joining join_answer
   counted q =
       let h : Accepted (check_then limits L T batch_then) = of_done (check_then limits L T batch_then) (sym (ap (λ (o : JoinOutcome). o.answer) (told q))) in
@@ -60,7 +60,7 @@ module _ (L : ℕ) (T : Tables) (B : BatchTables) (out : Tables) (block : List �
       let f : _ = fits_of limits (joined L T B) out (block_then (length block) done) b.1 in
       counts_small (check_then limits L T batch_then) (joined L T B) out (length block) _ (ap (λ (o : JoinOutcome). o.counts) (told q)) h f.0 (block_long (length block) f.1)
 
-  call_done : {w : told.Counts} {block' : List ℕ} → x ≡ Ok w → block' ≡ put (w.nodes ∷ w.edges ∷ w.sites ∷ w.mutations ∷ []) block → ◌≡◌ {A = JoinCall} (record { code = 0; cells = cells; block = block' }) (join_call limits L T B out block)
+  call_done : {w : written.Counts} {block' : List ℕ} → x ≡ Ok w → block' ≡ put (w.nodes ∷ w.edges ∷ w.sites ∷ w.mutations ∷ []) block → ◌≡◌ {A = JoinCall} (record { code = 0; cells = cells; block = block' }) (join_call limits L T B out block)
   unfolding packed block_by left_by accepted
   call_done q p = (λ i. record { code = 0; cells = cells; block = p i }) ∙ called q
 

@@ -17,7 +17,7 @@ use Rattle.accepted.specs.Rooms.{Fits}
 use Rattle.checker.proofs.After.{refused}
 use Rattle.meaning.specs.Lent.{Tabled}
 use Rattle.std.specs.Prelude.{Ok, Err}
-use Rattle.meaning.specs.declared.Counts as told
+use Rattle.meaning.specs.declared.Counts as written
 use Rattle.ffr.specs.Told.{Counted, Tellable, Told}
 
 -- four cells written one after the other
@@ -55,11 +55,11 @@ module _ {x : Tabled} where
   pub row_of : {r : Refusal} (cells : ℕ) → x ≡ Err r → Tellable x cells → (refusal_of r).row < 4294967296
   row_of cells q t = subst (λ (y : Tabled). Tellable y cells) q t
 
-  pub told_counts : {w : told.Counts} (cells : ℕ) → x ≡ Ok w → Tellable x cells → Counted (record { nodes = w.nodes; edges = w.edges; sites = w.sites; mutations = w.mutations }) cells
+  pub told_counts : {w : written.Counts} (cells : ℕ) → x ≡ Ok w → Tellable x cells → Counted (record { nodes = w.nodes; edges = w.edges; sites = w.sites; mutations = w.mutations }) cells
   told_counts cells q t = subst (λ (y : Tabled). Tellable y cells) q t
 
   pub refused_told : {r : Refusal} {v : ℕ} (block : List ℕ) → x ≡ Err r → v ≡ packed (refusal_of r) → Told x block v block
   refused_told {r} {v} block q p = subst (λ (y : Tabled). Told y block v block) (sym q) (p, refl)
 
-  pub done_told : {w : told.Counts} (block : List ℕ) {block' : List ℕ} → x ≡ Ok w → block' ≡ put (w.nodes ∷ w.edges ∷ w.sites ∷ w.mutations ∷ []) block → Told x block 0 block'
+  pub done_told : {w : written.Counts} (block : List ℕ) {block' : List ℕ} → x ≡ Ok w → block' ≡ put (w.nodes ∷ w.edges ∷ w.sites ∷ w.mutations ∷ []) block → Told x block 0 block'
   done_told block {block'} q p = subst (λ (y : Tabled). Told y block 0 block') (sym q) (refl, p)

@@ -4,14 +4,14 @@ ghost use Rattle.meaning.specs.Answer.{put, refusal_of};
 ghost use Rattle.meaning.specs.Called.{packed};
 ghost use Rattle.ffr.specs.Told.{Tellable, Told};
 
-use meaning::{Counts, Refusal, Told};
+use meaning::{Counts, Refusal};
 
 // A refusal's number times 2^32 plus its row.
 pub fn pack(x: Refusal) -> u64
     requires { (refusal_of x).row < 4294967296 }
     ensures { result ≡ packed (refusal_of x) }
 {
-    let t = Told::from(x);
+    let t = meaning::Told::from(x);
     (t.number as u64) * 4294967296 + (t.row as u64)
 }
 

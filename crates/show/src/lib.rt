@@ -10,7 +10,7 @@ ghost use Rattle.meaning.specs.Printed.{listed, refused_line};
 ghost use Rattle.listing.specs.Written.{Printed, room};
 ghost use Rattle.meaning.specs.Shown.{Long, front, clean_shown, shown, answered};
 
-use meaning::{Counts, Refusal, Told};
+use meaning::{Refusal, Told};
 use stored::Rows;
 
 // The line that a refusal prints.
@@ -147,14 +147,7 @@ fn clean_and_list(
         writing::within::BLOCK,
     );
     match answer {
-        Ok(
-            Counts {
-                nodes,
-                edges,
-                sites,
-                mutations,
-            },
-        ) => list_rows(
+        Ok(rows) => list_rows(
             len,
             &out_time,
             &out_birth,
@@ -169,10 +162,10 @@ fn clean_and_list(
             &out_node,
             &out_derived,
             &out_map,
-            nodes,
-            edges,
-            sites,
-            mutations,
+            rows.nodes,
+            rows.edges,
+            rows.sites,
+            rows.mutations,
             birth.len(),
             out,
         ),

@@ -23,7 +23,7 @@ list_rows-requires c = let L : ℕ = c.args.len in
     let S : List ℕ = c.args.samples.now in
     let cells : Tables = record { nodes = record { time = c.clean-answer.new.out_time; birth = c.clean-answer.new.out_birth; population = c.clean-answer.new.out_population }; edges = record { left = c.clean-answer.new.out_left; right = c.clean-answer.new.out_right; parent = c.clean-answer.new.out_parent; child = c.clean-answer.new.out_child }; sites = record { position = c.clean-answer.new.out_position; ancestral = c.clean-answer.new.out_ancestral }; muts = record { site = c.clean-answer.new.out_site; node = c.clean-answer.new.out_node; derived = c.clean-answer.new.out_derived } } in
     let nodemap : List ℕ = c.clean-answer.new.out_map in
-    let n : Counts = record { nodes = c.in-Ok.nodes; edges = c.in-Ok.edges; sites = c.in-Ok.sites; mutations = c.in-Ok.mutations } in
+    let n : Counts = record { nodes = c.in-Ok.rows.nodes; edges = c.in-Ok.rows.edges; sites = c.in-Ok.rows.sites; mutations = c.in-Ok.rows.mutations } in
     let e : record { answer = done; counts = n; cells = cells; map = nodemap } ≡ cleaning stands limits L T S blank (zeros stored_limits.nodes) 4 = ap (λ (a : Tabled). outcome_of a cells nodemap) (sym c.in-Ok.is) ∙ c.clean-answer.ensures in
     let f : Listable n cells (length T.nodes.birth) nodemap = clean_listable L T S blank (zeros stored_limits.nodes) n cells nodemap e in
     (f.long, f.rows_long, listing_room n (length T.nodes.birth) (length c.args.out.now) f.few f.rows_few c.requires)
@@ -38,7 +38,7 @@ returns-in-Ok c = let L : ℕ = c.args.len in
     let S : List ℕ = c.args.samples.now in
     let cells : Tables = record { nodes = record { time = c.clean-answer.new.out_time; birth = c.clean-answer.new.out_birth; population = c.clean-answer.new.out_population }; edges = record { left = c.clean-answer.new.out_left; right = c.clean-answer.new.out_right; parent = c.clean-answer.new.out_parent; child = c.clean-answer.new.out_child }; sites = record { position = c.clean-answer.new.out_position; ancestral = c.clean-answer.new.out_ancestral }; muts = record { site = c.clean-answer.new.out_site; node = c.clean-answer.new.out_node; derived = c.clean-answer.new.out_derived } } in
     let nodemap : List ℕ = c.clean-answer.new.out_map in
-    let n : Counts = record { nodes = c.in-Ok.nodes; edges = c.in-Ok.edges; sites = c.in-Ok.sites; mutations = c.in-Ok.mutations } in
+    let n : Counts = record { nodes = c.in-Ok.rows.nodes; edges = c.in-Ok.rows.edges; sites = c.in-Ok.rows.sites; mutations = c.in-Ok.rows.mutations } in
     printed_as (clean_listed L T S n cells nodemap (ap (λ (a : Tabled). outcome_of a cells nodemap) (sym c.in-Ok.is) ∙ c.clean-answer.ensures)) c.list_rows.ensures
 
 pub returns-in-Err : goal.returns-in-Err
