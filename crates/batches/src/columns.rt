@@ -6,13 +6,7 @@ ghost use Rattle.order.specs.Order.{Inside};
 ghost use Rattle.batches.specs.Joint.{rows_in};
 
 use crate::births::Both;
-
-// A row number as an index.
-fn wide(x: u32) -> usize
-    ensures { result ≡ x }
-{
-    x as usize
-}
+use order::wide;
 
 // Puts a column and a second one after it to the front of out.
 pub fn append<T: Copy>(a: &[T], b: &[T], out: &mut [T])

@@ -8,12 +8,7 @@ pub mod mutations; // the mutations by site
 
 ghost use Rattle.std.specs.Prelude.{◌≡◌, ◌+◌, ◌≤◌};
 
-// A row number as an index.
-fn wide(x: u32) -> usize
-    ensures { result ≡ x }
-{
-    x as usize
-}
+use order::wide;
 
 // A row of the batch, counted on from the base's n rows.
 fn counted_on(n: usize, row: u32) -> u32

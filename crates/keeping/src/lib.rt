@@ -15,12 +15,7 @@ ghost use Rattle.byrows.specs.Rows.{all_rows, sample_rows};
 ghost use Rattle.keeping.specs.Others.{other, other_rows, OthersListed};
 ghost use Rattle.keeping.specs.Places.{placed};
 
-// A row number as an index.
-fn wide(x: u32) -> usize
-    ensures { result ≡ x }
-{
-    x as usize
-}
+use order::wide;
 
 // Takes every mark away.
 fn unmark(marks: &mut [u8])

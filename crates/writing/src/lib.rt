@@ -10,6 +10,7 @@ ghost use Rattle.writing.specs.Renamed.{renamed};
 ghost use Rattle.writing.specs.Room.{room_answer};
 
 use meaning::{EdgeTable, MapTable, MutationTable, NodeTable, Refusal, SiteTable};
+use order::wide;
 
 pub mod within; // within.rt: the room with the block of a call from C
 
@@ -39,13 +40,6 @@ pub struct Lengths {
     pub node: usize,
     pub derived: usize,
     pub nodemap: usize,
-}
-
-// A row number as an index.
-fn wide(x: u32) -> usize
-    ensures { result ≡ x }
-{
-    x as usize
 }
 
 // The cells of src at the first k rows, to the front of out.
