@@ -1,6 +1,8 @@
 -- The working columns of a cleaning after its first sweep, and what is known of them when a result is written.
 use Rattle.std.specs.Prelude.{◌≡◌, List, map, ◌++◌, ℕ, ◌≤◌, length, take}
-use Rattle.meaning.specs.Rows.{Tables}
+use Rattle.meaning.specs.Rows.{Tables, node_table, tables}
+use Rattle.meaning.specs.Columns.{edges_in, sites_in, mutations_in}
+use Rattle.meaning.specs.declared.columns.Tables as columns
 use Rattle.meaning.specs.Answer.{limits}
 use Rattle.meaning.specs.Clean.{row_in, no_row}
 use Rattle.byrows.specs.Rows.{all_rows, sample_rows}
@@ -13,6 +15,10 @@ use Rattle.sweep.specs.Columns.{Input}
 use Rattle.sweep.specs.Sweeping.{Done}
 use Rattle.sweep.specs.Met.{input_of}
 use Rattle.cleaner.specs.Sweeping.{Sweepable}
+
+-- the tables with their populations, which stand in a column beside
+abbrev pub whole_in : columns.Tables → List ℕ → Tables
+whole_in t population = tables (node_table t.ages.time.now t.ages.birth.now population) (edges_in t.edges) (sites_in t.sites) (mutations_in t.mutations)
 
 -- the rows kept and their number, every row's place, the samples' marks, both orders of the edges, and what the first sweep stored
 pub record Work : Type 0 where

@@ -8,7 +8,11 @@ ghost use Rattle.runs.specs.Runs.{Store};
 ghost use Rattle.sweep.specs.Sweeping.{Done};
 ghost use Rattle.cleaner.specs.Sweeping.{Sweepable};
 ghost use Rattle.cleaner.specs.Finishing.{Fillable, Filled};
-ghost use Rattle.sweep.specs.Columns.{input_of, moves_of, store_of};
+ghost use Rattle.sweep.specs.Columns.{moves_of, store_of};
+ghost use Rattle.sweep.specs.Met.{input_of};
+ghost use Rattle.meaning.specs.Columns.{tables_in};
+
+use meaning::columns::Tables;
 
 // The first k cells of four columns, to the fronts of four.
 fn copy_edges(
@@ -44,17 +48,10 @@ fn copy_edges(
 // A sweep into the fronts of the lent columns, which finds no more than one edge past the limit.
 fn again(
     len: u32,
-    time: &[u32],
+    tables: Tables,
     sample: &[u8],
-    left: &[u32],
-    right: &[u32],
-    parent: &[u32],
-    child: &[u32],
     bl: &[u32],
     br: &[u32],
-    position: &[u32],
-    site: &[u32],
-    node: &[u32],
     edges: usize,
     mutations: usize,
     stood: &mut [u8],
@@ -66,12 +63,12 @@ fn again(
     out_node: &mut [u32],
 )
     requires { Sweepable len
-        (input_of time.now (take (length time.now) sample.now) left.now right.now parent.now child.now (take (length left.now) bl.now)
-        (take (length left.now) br.now) position.now site.now node.now) ×
-        (length time.now ≤ length sample.now) ×
-        (length left.now ≤ length bl.now) ×
-        (length left.now ≤ length br.now) ×
-        (length time.now ≤ length stood.old) ×
+        (input_of (tables_in tables) (take (length tables.ages.time.now) sample.now) (take (length tables.edges.left.now) bl.now)
+        (take (length tables.edges.left.now) br.now)) ×
+        (length tables.ages.time.now ≤ length sample.now) ×
+        (length tables.edges.left.now ≤ length bl.now) ×
+        (length tables.edges.left.now ≤ length br.now) ×
+        (length tables.ages.time.now ≤ length stood.old) ×
         (edges ≤ length out_left.old) ×
         (edges ≤ length out_right.old) ×
         (edges ≤ length out_parent.old) ×
@@ -80,30 +77,22 @@ fn again(
         (mutations ≤ length out_node.old) }
     ensures { (Q : List ℕ) →
         edges ≤ suc limits.edges →
-        Flags (take (length time.now) sample.now) Q (length time.now) →
+        Flags (take (length tables.entry.ages.time.now) sample.now) Q (length tables.entry.ages.time.now) →
         Filled len
-        (input_of time.now (take (length time.now) sample.now) left.now right.now
-        parent.now child.now (take (length left.now) bl.now)
-        (take (length left.now) br.now) position.now site.now node.now)
+        (input_of (tables_in tables.entry) (take (length tables.entry.ages.time.now) sample.now) (take (length tables.entry.edges.left.now) bl.now)
+        (take (length tables.entry.edges.left.now) br.now))
         Q edges mutations (edge_table out_left.old out_right.old out_parent.old out_child.old)
         (edge_table out_left.new out_right.new out_parent.new out_child.new) out_site.old
         out_site.new out_node.old out_node.new }
 {
-    let n = time.len();
-    let e = left.len();
+    let n = tables.ages.time.len();
+    let e = tables.edges.left.len();
     crate::trace::swept(
         len,
-        time,
+        tables,
         &sample[..n],
-        left,
-        right,
-        parent,
-        child,
         &bl[..e],
         &br[..e],
-        position,
-        site,
-        node,
         &mut out_left[..edges],
         &mut out_right[..edges],
         &mut out_parent[..edges],
@@ -117,17 +106,10 @@ fn again(
 // The finished edges and the mutations that move, as the sweep lists them, at the fronts of the lent columns.
 pub fn fill(
     len: u32,
-    time: &[u32],
+    tables: Tables,
     sample: &[u8],
-    left: &[u32],
-    right: &[u32],
-    parent: &[u32],
-    child: &[u32],
     bl: &[u32],
     br: &[u32],
-    position: &[u32],
-    site: &[u32],
-    node: &[u32],
     fl: &[u32],
     fr: &[u32],
     fp: &[u32],
@@ -145,27 +127,25 @@ pub fn fill(
     out_node: &mut [u32],
 )
     requires { Sweepable len
-        (input_of time.now (take (length time.now) sample.now) left.now right.now parent.now child.now (take (length left.now) bl.now)
-        (take (length left.now) br.now) position.now site.now node.now) ×
-        (length time.now ≤ length sample.now) ×
-        (length left.now ≤ length bl.now) ×
-        (length left.now ≤ length br.now) ×
-        Fillable (length time.now) edges mutations stood.old (edge_table fl.now fr.now fp.now fc.now)
+        (input_of (tables_in tables) (take (length tables.ages.time.now) sample.now) (take (length tables.edges.left.now) bl.now)
+        (take (length tables.edges.left.now) br.now)) ×
+        (length tables.ages.time.now ≤ length sample.now) ×
+        (length tables.edges.left.now ≤ length bl.now) ×
+        (length tables.edges.left.now ≤ length br.now) ×
+        Fillable (length tables.ages.time.now) edges mutations stood.old (edge_table fl.now fr.now fp.now fc.now)
         (moves_of mrow.now mlow.now mutations) (edge_table out_left.old out_right.old out_parent.old out_child.old) out_site.old
         out_node.old }
     ensures { (Q : List ℕ) (D : Store) (M : Moves) →
-        Flags (take (length time.now) sample.now) Q (length time.now) →
+        Flags (take (length tables.entry.ages.time.now) sample.now) Q (length tables.entry.ages.time.now) →
         Done len
-        (input_of time.now (take (length time.now) sample.now) left.now right.now
-        parent.now child.now (take (length left.now) bl.now)
-        (take (length left.now) br.now) position.now site.now node.now)
+        (input_of (tables_in tables.entry) (take (length tables.entry.ages.time.now) sample.now) (take (length tables.entry.edges.left.now) bl.now)
+        (take (length tables.entry.edges.left.now) br.now))
         Q D M
-        (store_of fl.now fr.now fp.now fc.now (take (length time.now) stood.old) edges)
+        (store_of fl.now fr.now fp.now fc.now (take (length tables.entry.ages.time.now) stood.old) edges)
         (moves_of mrow.now mlow.now mutations) →
         Filled len
-        (input_of time.now (take (length time.now) sample.now) left.now right.now
-        parent.now child.now (take (length left.now) bl.now)
-        (take (length left.now) br.now) position.now site.now node.now)
+        (input_of (tables_in tables.entry) (take (length tables.entry.ages.time.now) sample.now) (take (length tables.entry.edges.left.now) bl.now)
+        (take (length tables.entry.edges.left.now) br.now))
         Q edges mutations (edge_table out_left.old out_right.old out_parent.old out_child.old)
         (edge_table out_left.new out_right.new out_parent.new out_child.new) out_site.old
         out_site.new out_node.old out_node.new }
@@ -181,7 +161,7 @@ pub fn fill(
         }
     }
     again(
-        len, time, sample, left, right, parent, child, bl, br, position, site, node, edges,
-        mutations, stood, out_left, out_right, out_parent, out_child, out_site, out_node,
+        len, tables, sample, bl, br, edges, mutations, stood, out_left, out_right, out_parent,
+        out_child, out_site, out_node,
     );
 }

@@ -2,27 +2,18 @@
 ghost use Rattle.meaning.specs.Forest.{stands};
 ghost use Rattle.meaning.specs.Clean.{cleaned};
 ghost use Rattle.order.specs.Ranks.{Ranked};
-ghost use Rattle.cleaner.specs.Work.{Ready};
+ghost use Rattle.cleaner.specs.Work.{Ready, whole_in};
 ghost use Rattle.cleaner.specs.Lists.{RoomForLists, ListsWritten};
 ghost use Rattle.sweep.specs.Columns.{moves_of, store_of};
 
 use crate::{fill, finish};
+use meaning::columns::Tables;
 
 // Tables 2 and 4: the sweep's lists at the fronts of the columns, then the edges in key order and all rows by their places.
 pub fn write_lists(
     len: u32,
-    time: &[u32],
-    birth: &[u32],
+    tables: Tables,
     population: &[u16],
-    left: &[u32],
-    right: &[u32],
-    parent: &[u32],
-    child: &[u32],
-    position: &[u32],
-    ancestral: &[u8],
-    site: &[u32],
-    node: &[u32],
-    derived: &[u8],
     samples: &[u32],
     by_birth: &[u32],
     kept: &[u32],
@@ -48,14 +39,7 @@ pub fn write_lists(
     out_node: &mut [u32],
     out_derived: &mut [u8],
 )
-    requires { Ready len
-        (record {
-          nodes = record { time = time.now; birth = birth.now; population = population.now };
-          edges = record { left = left.now; right = right.now; parent = parent.now; child = child.now };
-          sites = record { position = position.now; ancestral = ancestral.now };
-          muts = record { site = site.now; node = node.now; derived = derived.now };
-        })
-        samples.now
+    requires { Ready len (whole_in tables population.now) samples.now
         (record {
           kept = kept.now;
           nodes = nodes;
@@ -66,18 +50,11 @@ pub fn write_lists(
           store = store_of fl.now fr.now fp.now fc.now stood.old edges;
           moves = moves_of mrow.now mlow.now mutations;
         }) ×
-        Ranked birth.now by_birth.now ×
+        Ranked tables.ages.birth.now by_birth.now ×
         RoomForLists edges mutations (record { left = out_left.old; right = out_right.old; parent = out_parent.old; child = out_child.old })
         (record { site = out_site.old; node = out_node.old; derived = out_derived.old }) }
     ensures { ListsWritten
-        (cleaned stands len
-        (record {
-          nodes = record { time = time.now; birth = birth.now; population = population.now };
-          edges = record { left = left.now; right = right.now; parent = parent.now; child = child.now };
-          sites = record { position = position.now; ancestral = ancestral.now };
-          muts = record { site = site.now; node = node.now; derived = derived.now };
-        })
-        samples.now)
+        (cleaned stands len (whole_in tables.entry population.now) samples.now)
         (record {
           left = out_left.old;
           right = out_right.old;
@@ -94,17 +71,24 @@ pub fn write_lists(
         (record { site = out_site.new; node = out_node.new; derived = out_derived.new }) }
 {
     fill::fill(
-        len, time, sample, left, right, parent, child, bl, br, position, site, node, fl, fr, fp,
-        fc, mrow, mlow, edges, mutations, stood, out_left, out_right, out_parent, out_child,
-        out_site, out_node,
+        len, tables, sample, bl, br, fl, fr, fp, fc, mrow, mlow, edges, mutations, stood, out_left,
+        out_right, out_parent, out_child, out_site, out_node,
     );
     finish::finish_edges(
-        time, birth, by_birth, places, edges, out_left, out_right, out_parent, out_child, bl, br,
+        tables.ages,
+        by_birth,
+        places,
+        edges,
+        out_left,
+        out_right,
+        out_parent,
+        out_child,
+        bl,
+        br,
     );
     finish::finish_mutations(
         places,
-        site,
-        derived,
+        tables.mutations,
         mutations,
         out_site,
         out_node,
