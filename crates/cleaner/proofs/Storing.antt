@@ -47,7 +47,7 @@ module _ {L : ℕ} {T : Tables} {S : List ℕ} {W : Work} (r : Ready L T S W) wh
   nodes_fit = r.footing.sound.size.nodes
 
   -- what filling the lists asks
-  pub fill_ready : {E : EdgeColumns} {M : MutationColumns} → RoomForLists k m E M → Sweepable L (input_in T W) × (length T.nodes.time ≤ length W.sample) × (length T.edges.left ≤ length W.by_left) × (length T.edges.left ≤ length W.by_right) × Fillable (length T.nodes.time) k m W.store.stood (record { left = W.store.left; right = W.store.right; parent = W.store.parent; child = W.store.child }) W.moves E M.site M.node
+  pub fill_ready : {E : EdgeColumns} {M : MutationColumns} → RoomForLists k m E M → Sweepable L (input_in T W) × (length T.nodes.time ≤ length W.sample) × (length T.edges.left ≤ length W.by_left) × (length T.edges.left ≤ length W.by_right) × Fillable (length T.nodes.time) k m W.store.stood E M.site M.node
   fill_ready room = (
     r.sweepable,
     omega (arith, r.long.sample, nodes_fit),
@@ -55,10 +55,6 @@ module _ {L : ℕ} {T : Tables} {S : List ℕ} {W : Work} (r : Ready L T S W) wh
     omega (arith, r.long.rights, edges_fit),
     record {
       stood_long = omega (arith, r.long.stood, nodes_fit);
-      rights = r.long.right;
-      parents = r.long.parent;
-      children = r.long.child;
-      even = r.long.even;
       left_room = room.left;
       right_room = room.right;
       parent_room = room.parent;

@@ -11,6 +11,7 @@ ghost use Rattle.meaning.specs.Clean.{outcome_of, cleaning};
 
 mod fill;
 mod finish;
+mod first;
 mod lists;
 mod rank;
 mod sound;

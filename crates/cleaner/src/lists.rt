@@ -2,10 +2,10 @@
 ghost use Rattle.meaning.specs.Forest.{stands};
 ghost use Rattle.meaning.specs.Clean.{cleaned};
 ghost use Rattle.order.specs.Ranks.{Ranked};
-ghost use Rattle.cleaner.specs.Work.{Ready, whole_in};
+ghost use Rattle.cleaner.specs.Work.{Ready, whole_in, store_in, moves_in};
 ghost use Rattle.cleaner.specs.Lists.{RoomForLists, ListsWritten};
-ghost use Rattle.sweep.specs.Columns.{moves_of, store_of};
 
+use crate::first::FirstSweep;
 use crate::{fill, finish};
 use meaning::columns::Tables;
 
@@ -21,16 +21,9 @@ pub fn write_lists(
     sample: &[u8],
     bl: &mut [u32],
     br: &mut [u32],
-    fl: &[u32],
-    fr: &[u32],
-    fp: &[u32],
-    fc: &[u32],
+    first: FirstSweep,
     stood: &mut [u8],
-    mrow: &[u32],
-    mlow: &[u32],
     nodes: usize,
-    edges: usize,
-    mutations: usize,
     out_left: &mut [u32],
     out_right: &mut [u32],
     out_parent: &mut [u32],
@@ -47,11 +40,11 @@ pub fn write_lists(
           sample = sample.now;
           by_left = bl.old;
           by_right = br.old;
-          store = store_of fl.now fr.now fp.now fc.now stood.old edges;
-          moves = moves_of mrow.now mlow.now mutations;
+          store = store_in first stood.old;
+          moves = moves_in first;
         }) ×
         Ranked tables.ages.birth.now by_birth.now ×
-        RoomForLists edges mutations (record { left = out_left.old; right = out_right.old; parent = out_parent.old; child = out_child.old })
+        RoomForLists first.made first.moved (record { left = out_left.old; right = out_right.old; parent = out_parent.old; child = out_child.old })
         (record { site = out_site.old; node = out_node.old; derived = out_derived.old }) }
     ensures { ListsWritten
         (cleaned stands len (whole_in tables.entry population.now) samples.now)
@@ -71,14 +64,14 @@ pub fn write_lists(
         (record { site = out_site.new; node = out_node.new; derived = out_derived.new }) }
 {
     fill::fill(
-        len, tables, sample, bl, br, fl, fr, fp, fc, mrow, mlow, edges, mutations, stood, out_left,
-        out_right, out_parent, out_child, out_site, out_node,
+        len, tables, sample, bl, br, first, stood, out_left, out_right, out_parent, out_child,
+        out_site, out_node,
     );
     finish::finish_edges(
         tables.ages,
         by_birth,
         places,
-        edges,
+        first.made,
         out_left,
         out_right,
         out_parent,
@@ -89,7 +82,7 @@ pub fn write_lists(
     finish::finish_mutations(
         places,
         tables.mutations,
-        mutations,
+        first.moved,
         out_site,
         out_node,
         out_derived,

@@ -13,8 +13,9 @@ ghost use Rattle.cleaner.specs.Tracing.{Passed};
 ghost use Rattle.cleaner.specs.Work.{Ready, whole_in};
 ghost use Rattle.sweep.specs.Columns.{moves_of, store_of};
 
+use crate::first::FirstSweep;
 use crate::{lists, rank, store, trace};
-use meaning::columns::Tables;
+use meaning::columns::{EdgeColumns, Tables};
 use meaning::{Counts, EdgeTable, NodeTable, Refusal};
 use writing::{Lengths, Needs};
 
@@ -186,6 +187,18 @@ pub fn clean_sound(
         nodemap: out_map.len(),
     };
     writing::within::check_room_and_block(need, lent, cells)?;
+    let first = FirstSweep {
+        edges: EdgeColumns {
+            left: &fl,
+            right: &fr,
+            parent: &fp,
+            child: &fc,
+        },
+        row: &mrow,
+        low: &mlow,
+        made: z.edges,
+        moved: z.mutations,
+    };
     store::write_nodes(
         even.ages,
         population,
@@ -207,16 +220,9 @@ pub fn clean_sound(
         &sample,
         bl,
         &mut br,
-        &fl,
-        &fr,
-        &fp,
-        &fc,
+        first,
         &mut stood,
-        &mrow,
-        &mlow,
         z.nodes,
-        z.edges,
-        z.mutations,
         out_left,
         out_right,
         out_parent,

@@ -56,6 +56,12 @@ returns-in_err-check_room_and_block c =
     ap (λ (a : Tabled). outcome_of a out c.args.out_map.now) (passed_on c.from_residual.ensures.1)
     ∙ refused_after (c.work-z.ensures _ c.requires.0) out c.args.out_map.now c.args.cells _ (refusal_refuses _) (ap checked_of (sym c.in_err-check_room_and_block.was) ∙ c.check_room_and_block.ensures)
 
+pub invariant_of-first : goal.invariant_of-first
+invariant_of-first c = record { even = record { right_long = c.work-z.auto.fr ∙ sym c.work-z.auto.fl; parent_long = c.work-z.auto.fp ∙ sym c.work-z.auto.fl; child_long = c.work-z.auto.fc ∙ sym c.work-z.auto.fl } }
+
+pub invariant_of-first-2 : goal.invariant_of-first-2
+invariant_of-first-2 c = record { even = c.work-z.auto.mlow ∙ sym c.work-z.auto.mrow }
+
 pub slice_bounds-write_nodes-end : goal.slice_bounds-write_nodes-end
 slice_bounds-write_nodes-end c = sym (c.work-z.auto.kept ∙ length-replicate {A = ℕ} 1280 0)
 
@@ -78,25 +84,7 @@ pub slice_bounds-write_lists-end-4 : goal.slice_bounds-write_lists-end-4
 slice_bounds-write_lists-end-4 c = sym (c.work-z.auto.br ∙ length-replicate {A = ℕ} 4096 0)
 
 pub slice_bounds-write_lists-end-5 : goal.slice_bounds-write_lists-end-5
-slice_bounds-write_lists-end-5 c = sym (c.work-z.auto.fl ∙ length-replicate {A = ℕ} 4096 0)
-
-pub slice_bounds-write_lists-end-6 : goal.slice_bounds-write_lists-end-6
-slice_bounds-write_lists-end-6 c = sym (c.work-z.auto.fr ∙ length-replicate {A = ℕ} 4096 0)
-
-pub slice_bounds-write_lists-end-7 : goal.slice_bounds-write_lists-end-7
-slice_bounds-write_lists-end-7 c = sym (c.work-z.auto.fp ∙ length-replicate {A = ℕ} 4096 0)
-
-pub slice_bounds-write_lists-end-8 : goal.slice_bounds-write_lists-end-8
-slice_bounds-write_lists-end-8 c = sym (c.work-z.auto.fc ∙ length-replicate {A = ℕ} 4096 0)
-
-pub slice_bounds-write_lists-end-9 : goal.slice_bounds-write_lists-end-9
-slice_bounds-write_lists-end-9 c = sym (c.work-z.auto.stood ∙ length-replicate {A = ℕ} 1024 0)
-
-pub slice_bounds-write_lists-end-10 : goal.slice_bounds-write_lists-end-10
-slice_bounds-write_lists-end-10 c = sym (c.work-z.auto.mrow ∙ length-replicate {A = ℕ} 512 0)
-
-pub slice_bounds-write_lists-end-11 : goal.slice_bounds-write_lists-end-11
-slice_bounds-write_lists-end-11 c = sym (c.work-z.auto.mlow ∙ length-replicate {A = ℕ} 512 0)
+slice_bounds-write_lists-end-5 c = sym (c.work-z.auto.stood ∙ length-replicate {A = ℕ} 1024 0)
 
 pub write_lists-requires : goal.write_lists-requires
 write_lists-requires c = (c.work-z.ensures _ c.requires.0, c.requires.1, lists_room (room_left _ _ _ (ap checked_of (sym c.in_ok-check_room_and_block.was) ∙ c.check_room_and_block.ensures)) refl refl refl refl refl refl refl)
