@@ -15,6 +15,7 @@ use Rattle.meaning.specs.Check.{check_all_then, check}
 use Rattle.meaning.specs.Lent.{no_rows_written}
 use Rattle.meaning.specs.Clean.{Outcome, clean_fit, cleaned, node_map, cleaning}
 use Rattle.accepted.specs.Calls.{check_tells}
+use Rattle.accepted.specs.Checked.{Shaped}
 use Rattle.accepted.specs.Endings.{clean_refused}
 use Rattle.byrows.specs.Ground.{Ground}
 use Rattle.checker.proofs.After.{Hands, hands, all_after, refused, stops, goes_on, was_sound}
@@ -32,6 +33,11 @@ module _ (L : ℕ) (T : Tables) (S : List ℕ) (c : Checked) (e : checked_of c �
   pub grounded : c ≡ Ok tt → ((i : ℕ) → i < length T.nodes.time → at T.nodes.time i < Ages) → Ground limits L T S
   unfolding check
   grounded q y = let k : _ = check_tells limits L T S (was_sound (check_all_then limits L T S) hand c found q) in record { sound = k.sound; listed = k.listed; young = y }
+
+  -- and each table's columns are equally long
+  pub shaped : c ≡ Ok tt → Shaped T
+  unfolding check
+  shaped q = (check_tells limits L T S (was_sound (check_all_then limits L T S) hand c found q)).sound.shape
 
   -- a column as long as the nodes may be has room for their order
   pub births_room : c ≡ Ok tt → (by : List ℕ) (n : ℕ) → n ≡ 1024 → length by ≡ n → length T.nodes.birth ≤ length by

@@ -8,7 +8,7 @@ use lib.ListN.{length, take}
 use Rattle.meaning.specs.Words.{at}
 use Rattle.meaning.specs.Rows.{EdgeColumns, SiteColumns, MutationColumns, Tables}
 use Rattle.meaning.specs.Forest.{stands}
-use Rattle.meaning.specs.Answer.{Answer, answer, done, accepted, limits, put}
+use Rattle.meaning.specs.Answer.{Answer, done, accepted, limits, put}
 use Rattle.meaning.specs.Lent.{put_all, no_rows_written}
 use Rattle.meaning.specs.Clean.{cleaned, node_map}
 use Rattle.bridge.specs.Columns.{Apart}
@@ -47,7 +47,7 @@ module _ {L : ℕ} {T : Tables} {S : List ℕ} {W : Work} (r : Ready L T S W) wh
   nodes_fit = r.footing.sound.size.nodes
 
   -- what filling the lists asks
-  pub fill_ready : {E : EdgeColumns} {M : MutationColumns} → RoomForLists k m E M → Sweepable L (input_in T W) × (length T.nodes.time ≤ length W.sample) × (length T.edges.left ≤ length W.by_left) × (length T.edges.left ≤ length W.by_right) × Fillable (length T.nodes.time) k m W.store.stood (record { left = W.store.left; right = W.store.right; parent = W.store.parent; child = W.store.child }) W.moves E M.site M.node
+  pub fill_ready : {E : EdgeColumns} {M : MutationColumns} → RoomForLists k m E M → Sweepable L (input_in T W) × (length T.nodes.time ≤ length W.sample) × (length T.edges.left ≤ length W.by_left) × (length T.edges.left ≤ length W.by_right) × Fillable (length T.nodes.time) k m W.store.stood E M.site M.node
   fill_ready room = (
     r.sweepable,
     omega (arith, r.long.sample, nodes_fit),
@@ -55,10 +55,6 @@ module _ {L : ℕ} {T : Tables} {S : List ℕ} {W : Work} (r : Ready L T S W) wh
     omega (arith, r.long.rights, edges_fit),
     record {
       stood_long = omega (arith, r.long.stood, nodes_fit);
-      rights = r.long.right;
-      parents = r.long.parent;
-      children = r.long.child;
-      even = r.long.even;
       left_room = room.left;
       right_room = room.right;
       parent_room = room.parent;
@@ -82,9 +78,8 @@ module _ {L : ℕ} {T : Tables} {S : List ℕ} {W : Work} (r : Ready L T S W) wh
     lows_room = omega (arith, room.node, f.lows_front.long)
 
     -- what putting the edges in key order asks
-    pub finish_ready : {by : List ℕ} (order spare : List ℕ) → Ranked T.nodes.birth by → length order ≡ limits.edges → length spare ≡ limits.edges → (length T.nodes.birth ≡ length T.nodes.time) × (length T.nodes.time ≤ 1024) × Ranked T.nodes.birth by × Apart T.nodes.birth × (k ≤ length E₂.left) × (k ≤ length E₂.right) × (k ≤ length E₂.parent) × (k ≤ length E₂.child) × (k ≤ length order) × (k ≤ length spare) × (k ≤ 4294967295) × Inside (length T.nodes.time) (take k E₂.parent) × Inside (length T.nodes.time) (take k E₂.child) × InTurns E₂.left E₂.child k
+    pub finish_ready : {by : List ℕ} (order spare : List ℕ) → Ranked T.nodes.birth by → length order ≡ limits.edges → length spare ≡ limits.edges → (length T.nodes.time ≤ 1024) × Ranked T.nodes.birth by × Apart T.nodes.birth × (k ≤ length E₂.left) × (k ≤ length E₂.right) × (k ≤ length E₂.parent) × (k ≤ length E₂.child) × (k ≤ length order) × (k ≤ length spare) × (k ≤ 4294967295) × Inside (length T.nodes.time) (take k E₂.parent) × Inside (length T.nodes.time) (take k E₂.child) × InTurns E₂.left E₂.child k
     finish_ready order spare a b c = (
-      r.footing.sound.shape.births,
       nodes_fit,
       a,
       once limits L T S r.footing,
@@ -106,11 +101,8 @@ module _ {L : ℕ} {T : Tables} {S : List ℕ} {W : Work} (r : Ready L T S W) wh
 
   -- ---- all tables
 
-  pub nodes_ready : {n : Needs} {l : Lengths} → n.nodes ≡ W.nodes → RoomFor n l → (W.nodes ≤ length W.kept) × (W.nodes ≤ l.time) × (W.nodes ≤ l.birth) × (W.nodes ≤ l.population) × Inside (length T.nodes.time) (take W.nodes W.kept) × (length T.nodes.birth ≡ length T.nodes.time) × (length T.nodes.population ≡ length T.nodes.time)
-  nodes_ready e room = (r.kept_long, omega (arith, room.time), omega (arith, room.birth), omega (arith, room.population), kept_inside L T S W r, r.footing.sound.shape.births, r.footing.sound.shape.populations)
-
-  pub states_even : length T.sites.ancestral ≡ length T.sites.position
-  states_even = r.footing.sound.shape.states
+  pub nodes_ready : {n : Needs} {l : Lengths} → n.nodes ≡ W.nodes → RoomFor n l → (W.nodes ≤ length W.kept) × (W.nodes ≤ l.time) × (W.nodes ≤ l.birth) × (W.nodes ≤ l.population) × Inside (length T.nodes.time) (take W.nodes W.kept) × (length T.nodes.population ≡ length T.nodes.time)
+  nodes_ready e room = (r.kept_long, omega (arith, room.time), omega (arith, room.birth), omega (arith, room.population), kept_inside L T S W r, r.footing.sound.shape.populations)
 
   pub map_room : length T.nodes.time ≤ length W.places
   map_room = omega (arith, r.long.places, nodes_fit)

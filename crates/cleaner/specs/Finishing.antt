@@ -5,7 +5,7 @@ use Rattle.meaning.specs.Rows.{NodeColumns, EdgeColumns, Edge}
 use Rattle.meaning.specs.Answer.{put}
 use Rattle.order.specs.Order.{SortedFrom, by_keys}
 use Rattle.writing.specs.Renamed.{renamed}
-use Rattle.placing.specs.Placing.{Moves, movers}
+use Rattle.placing.specs.Placing.{movers}
 use Rattle.runs.specs.Runs.{Collected, no_edge}
 use Rattle.sweep.specs.Columns.{Input, up_in, low_cell}
 
@@ -21,13 +21,9 @@ pub record RowIs (E : EdgeColumns) (i : ℕ) (e : Edge) : Type 0 where
   pub parent : at E.parent i ≡ e.parent
   pub child : at E.child i ≡ e.child
 
--- the lent columns have a cell for each of k edges and m mutations, and the marks and the lists of the first sweep are even
-pub record Fillable (n k m : ℕ) (stood : List ℕ) (B : EdgeColumns) (M : Moves) (out : EdgeColumns) (rows lows : List ℕ) : Type 0 where
+-- there is a mark for each of n rows, and the lent columns have a cell for each of k edges and m mutations
+pub record Fillable (n k m : ℕ) (stood : List ℕ) (out : EdgeColumns) (rows lows : List ℕ) : Type 0 where
   pub stood_long : n ≤ length stood
-  pub rights : length B.right ≡ length B.left
-  pub parents : length B.parent ≡ length B.left
-  pub children : length B.child ≡ length B.left
-  pub even : length M.low ≡ length M.row
   pub left_room : k ≤ length out.left
   pub right_room : k ≤ length out.right
   pub parent_room : k ≤ length out.parent

@@ -2,10 +2,10 @@
 use Rattle.std.specs.Prelude.{◌≡◌, Bool, true, false, List, ltb, length}
 use Rattle.std.proofs.Math.Path.{refl, sym}
 use Rattle.std.proofs.Common.{ap, ◌∙◌, arith, ltb-true, ltb-false, lt-ltb}
-use Prim.Native.Nat.{ℕ, zero, suc, min, ◌<◌, ◌≤◌}
+use Prim.Native.Nat.{ℕ, min, ◌<◌, ◌≤◌}
 use Rattle.meaning.specs.Words.{or}
 use Rattle.meaning.specs.Rows.{Tables}
-use Rattle.meaning.specs.Answer.{Answer, answer, done, limits, refuse, accepted, put}
+use Rattle.meaning.specs.Answer.{Answer, done, limits, refuse, accepted, put}
 use Rattle.meaning.specs.Lent.{put_all, block_then, no_rows_written}
 use Rattle.meaning.specs.Clean.{clean_end, clean_fit}
 use Rattle.laws.specs.Bools.{or_no, or_left}

@@ -1,10 +1,10 @@
 -- The result of a cleaning by its working columns: how many rows each table has, and what its columns hold when all is written.
-use Rattle.std.specs.Prelude.{◌≡◌, List, ◌++◌, map, ℕ, ◌+◌, ◌<◌, ◌≤◌, get_or, take}
+use Rattle.std.specs.Prelude.{◌≡◌, List, ◌++◌, map, ℕ, ◌<◌, ◌≤◌, get_or, take}
 use Rattle.std.proofs.Common.{sym, ◌∙◌, arith, length-take-le}
 use Rattle.std.proofs.Math.Path.{ap}
 use Rattle.std.proofs.lemmas.Simd.{map-map}
 use Rattle.std.proofs.Math.ListN.{length, length-map}
-use Rattle.meaning.specs.Words.{at, index_of, rows, sort}
+use Rattle.meaning.specs.Words.{at, index_of, sort}
 use Rattle.meaning.specs.Rows.{NodeColumns, EdgeColumns, MutationColumns, Tables, Edge, age_table}
 use Rattle.meaning.specs.Forest.{stands}
 use Rattle.meaning.specs.Answer.{limits, put}

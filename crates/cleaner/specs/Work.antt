@@ -1,6 +1,8 @@
 -- The working columns of a cleaning after its first sweep, and what is known of them when a result is written.
 use Rattle.std.specs.Prelude.{◌≡◌, List, map, ◌++◌, ℕ, ◌≤◌, length, take}
-use Rattle.meaning.specs.Rows.{Tables}
+use Rattle.meaning.specs.Rows.{Tables, node_table, tables}
+use Rattle.meaning.specs.Columns.{edges_in, sites_in, mutations_in, tables_in}
+use Rattle.meaning.specs.declared.columns.Tables as columns
 use Rattle.meaning.specs.Answer.{limits}
 use Rattle.meaning.specs.Clean.{row_in, no_row}
 use Rattle.byrows.specs.Rows.{all_rows, sample_rows}
@@ -13,6 +15,11 @@ use Rattle.sweep.specs.Columns.{Input}
 use Rattle.sweep.specs.Sweeping.{Done}
 use Rattle.sweep.specs.Met.{input_of}
 use Rattle.cleaner.specs.Sweeping.{Sweepable}
+use Rattle.cleaner.specs.declared.first.FirstSweep.{FirstSweep}
+
+-- the tables with their populations, which stand in a column beside
+abbrev pub whole_in : columns.Tables → List ℕ → Tables
+whole_in t population = tables (node_table t.ages.time.now t.ages.birth.now population) (edges_in t.edges) (sites_in t.sites) (mutations_in t.mutations)
 
 -- the rows kept and their number, every row's place, the samples' marks, both orders of the edges, and what the first sweep stored
 pub record Work : Type 0 where
@@ -32,6 +39,17 @@ input_in T W = input_of T (take (length T.nodes.time) W.sample) (take (length T.
 -- the store with the marks of n rows
 abbrev pub store_of : ℕ → Store → Store
 store_of n D = record { left = D.left; right = D.right; parent = D.parent; child = D.child; stood = take n D.stood; count = D.count }
+
+-- the same, where marks and orders stand at the fronts of longer columns
+abbrev pub fronts_in : columns.Tables → List ℕ → List ℕ → List ℕ → Input
+fronts_in t sample by_left by_right = input_of (tables_in t) (take (length t.ages.time.now) sample) (take (length t.edges.left.now) by_left) (take (length t.edges.left.now) by_right)
+
+-- what the first sweep stored, with its marks on rows, and what it moved
+abbrev pub store_in : FirstSweep → List ℕ → Store
+store_in f stood = record { left = f.edges.left.now; right = f.edges.right.now; parent = f.edges.parent.now; child = f.edges.child.now; stood = stood; count = f.made }
+
+abbrev pub moves_in : FirstSweep → Moves
+moves_in f = record { row = f.row.now; low = f.low.now; count = f.moved }
 
 -- the working columns are long enough
 pub record Long (T : Tables) (W : Work) : Type 0 where

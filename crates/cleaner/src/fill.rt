@@ -8,53 +8,43 @@ ghost use Rattle.runs.specs.Runs.{Store};
 ghost use Rattle.sweep.specs.Sweeping.{Done};
 ghost use Rattle.cleaner.specs.Sweeping.{Sweepable};
 ghost use Rattle.cleaner.specs.Finishing.{Fillable, Filled};
-ghost use Rattle.sweep.specs.Columns.{input_of, moves_of, store_of};
+ghost use Rattle.cleaner.specs.Work.{fronts_in, store_in, moves_in};
 
-// The first k cells of four columns, to the fronts of four.
+use crate::first::FirstSweep;
+use meaning::columns::{EdgeColumns, Tables};
+
+// The first k edges, to the fronts of four columns.
 fn copy_edges(
-    fl: &[u32],
-    fr: &[u32],
-    fp: &[u32],
-    fc: &[u32],
+    edges: EdgeColumns,
     k: usize,
     out_left: &mut [u32],
     out_right: &mut [u32],
     out_parent: &mut [u32],
     out_child: &mut [u32],
 )
-    requires { (k ≤ length fl.now) ×
-        (k ≤ length fr.now) ×
-        (k ≤ length fp.now) ×
-        (k ≤ length fc.now) ×
+    requires { (k ≤ length edges.left.now) ×
         (k ≤ length out_left.old) ×
         (k ≤ length out_right.old) ×
         (k ≤ length out_parent.old) ×
         (k ≤ length out_child.old) }
-    ensures { (out_left.new ≡ put (take k fl.now) out_left.old) ×
-        (out_right.new ≡ put (take k fr.now) out_right.old) ×
-        (out_parent.new ≡ put (take k fp.now) out_parent.old) ×
-        (out_child.new ≡ put (take k fc.now) out_child.old) }
+    ensures { (out_left.new ≡ put (take k edges.entry.left.now) out_left.old) ×
+        (out_right.new ≡ put (take k edges.entry.right.now) out_right.old) ×
+        (out_parent.new ≡ put (take k edges.entry.parent.now) out_parent.old) ×
+        (out_child.new ≡ put (take k edges.entry.child.now) out_child.old) }
 {
-    writing::copy(fl, k, out_left);
-    writing::copy(fr, k, out_right);
-    writing::copy(fp, k, out_parent);
-    writing::copy(fc, k, out_child);
+    writing::copy(edges.left, k, out_left);
+    writing::copy(edges.right, k, out_right);
+    writing::copy(edges.parent, k, out_parent);
+    writing::copy(edges.child, k, out_child);
 }
 
 // A sweep into the fronts of the lent columns, which finds no more than one edge past the limit.
 fn again(
     len: u32,
-    time: &[u32],
+    tables: Tables,
     sample: &[u8],
-    left: &[u32],
-    right: &[u32],
-    parent: &[u32],
-    child: &[u32],
     bl: &[u32],
     br: &[u32],
-    position: &[u32],
-    site: &[u32],
-    node: &[u32],
     edges: usize,
     mutations: usize,
     stood: &mut [u8],
@@ -65,13 +55,11 @@ fn again(
     out_site: &mut [u32],
     out_node: &mut [u32],
 )
-    requires { Sweepable len
-        (input_of time.now (take (length time.now) sample.now) left.now right.now parent.now child.now (take (length left.now) bl.now)
-        (take (length left.now) br.now) position.now site.now node.now) ×
-        (length time.now ≤ length sample.now) ×
-        (length left.now ≤ length bl.now) ×
-        (length left.now ≤ length br.now) ×
-        (length time.now ≤ length stood.old) ×
+    requires { Sweepable len (fronts_in tables sample.now bl.now br.now) ×
+        (length tables.ages.time.now ≤ length sample.now) ×
+        (length tables.edges.left.now ≤ length bl.now) ×
+        (length tables.edges.left.now ≤ length br.now) ×
+        (length tables.ages.time.now ≤ length stood.old) ×
         (edges ≤ length out_left.old) ×
         (edges ≤ length out_right.old) ×
         (edges ≤ length out_parent.old) ×
@@ -80,30 +68,21 @@ fn again(
         (mutations ≤ length out_node.old) }
     ensures { (Q : List ℕ) →
         edges ≤ suc limits.edges →
-        Flags (take (length time.now) sample.now) Q (length time.now) →
+        Flags (take (length tables.entry.ages.time.now) sample.now) Q (length tables.entry.ages.time.now) →
         Filled len
-        (input_of time.now (take (length time.now) sample.now) left.now right.now
-        parent.now child.now (take (length left.now) bl.now)
-        (take (length left.now) br.now) position.now site.now node.now)
+        (fronts_in tables.entry sample.now bl.now br.now)
         Q edges mutations (edge_table out_left.old out_right.old out_parent.old out_child.old)
         (edge_table out_left.new out_right.new out_parent.new out_child.new) out_site.old
         out_site.new out_node.old out_node.new }
 {
-    let n = time.len();
-    let e = left.len();
+    let n = tables.ages.time.len();
+    let e = tables.edges.left.len();
     crate::trace::swept(
         len,
-        time,
+        tables,
         &sample[..n],
-        left,
-        right,
-        parent,
-        child,
         &bl[..e],
         &br[..e],
-        position,
-        site,
-        node,
         &mut out_left[..edges],
         &mut out_right[..edges],
         &mut out_parent[..edges],
@@ -117,25 +96,11 @@ fn again(
 // The finished edges and the mutations that move, as the sweep lists them, at the fronts of the lent columns.
 pub fn fill(
     len: u32,
-    time: &[u32],
+    tables: Tables,
     sample: &[u8],
-    left: &[u32],
-    right: &[u32],
-    parent: &[u32],
-    child: &[u32],
     bl: &[u32],
     br: &[u32],
-    position: &[u32],
-    site: &[u32],
-    node: &[u32],
-    fl: &[u32],
-    fr: &[u32],
-    fp: &[u32],
-    fc: &[u32],
-    mrow: &[u32],
-    mlow: &[u32],
-    edges: usize,
-    mutations: usize,
+    first: FirstSweep,
     stood: &mut [u8],
     out_left: &mut [u32],
     out_right: &mut [u32],
@@ -144,44 +109,55 @@ pub fn fill(
     out_site: &mut [u32],
     out_node: &mut [u32],
 )
-    requires { Sweepable len
-        (input_of time.now (take (length time.now) sample.now) left.now right.now parent.now child.now (take (length left.now) bl.now)
-        (take (length left.now) br.now) position.now site.now node.now) ×
-        (length time.now ≤ length sample.now) ×
-        (length left.now ≤ length bl.now) ×
-        (length left.now ≤ length br.now) ×
-        Fillable (length time.now) edges mutations stood.old (edge_table fl.now fr.now fp.now fc.now)
-        (moves_of mrow.now mlow.now mutations) (edge_table out_left.old out_right.old out_parent.old out_child.old) out_site.old
+    requires { Sweepable len (fronts_in tables sample.now bl.now br.now) ×
+        (length tables.ages.time.now ≤ length sample.now) ×
+        (length tables.edges.left.now ≤ length bl.now) ×
+        (length tables.edges.left.now ≤ length br.now) ×
+        Fillable (length tables.ages.time.now) first.made first.moved stood.old
+        (edge_table out_left.old out_right.old out_parent.old out_child.old) out_site.old
         out_node.old }
     ensures { (Q : List ℕ) (D : Store) (M : Moves) →
-        Flags (take (length time.now) sample.now) Q (length time.now) →
+        Flags (take (length tables.entry.ages.time.now) sample.now) Q (length tables.entry.ages.time.now) →
         Done len
-        (input_of time.now (take (length time.now) sample.now) left.now right.now
-        parent.now child.now (take (length left.now) bl.now)
-        (take (length left.now) br.now) position.now site.now node.now)
+        (fronts_in tables.entry sample.now bl.now br.now)
         Q D M
-        (store_of fl.now fr.now fp.now fc.now (take (length time.now) stood.old) edges)
-        (moves_of mrow.now mlow.now mutations) →
+        (store_in first.entry (take (length tables.entry.ages.time.now) stood.old))
+        (moves_in first.entry) →
         Filled len
-        (input_of time.now (take (length time.now) sample.now) left.now right.now
-        parent.now child.now (take (length left.now) bl.now)
-        (take (length left.now) br.now) position.now site.now node.now)
-        Q edges mutations (edge_table out_left.old out_right.old out_parent.old out_child.old)
+        (fronts_in tables.entry sample.now bl.now br.now)
+        Q first.entry.made first.entry.moved (edge_table out_left.old out_right.old out_parent.old out_child.old)
         (edge_table out_left.new out_right.new out_parent.new out_child.new) out_site.old
         out_site.new out_node.old out_node.new }
 {
-    if edges <= fl.len() {
-        if mutations <= mrow.len() {
+    if first.made <= first.edges.left.len() {
+        if first.moved <= first.row.len() {
             copy_edges(
-                fl, fr, fp, fc, edges, out_left, out_right, out_parent, out_child,
+                first.edges,
+                first.made,
+                out_left,
+                out_right,
+                out_parent,
+                out_child,
             );
-            writing::copy(mrow, mutations, out_site);
-            writing::copy(mlow, mutations, out_node);
+            writing::copy(first.row, first.moved, out_site);
+            writing::copy(first.low, first.moved, out_node);
             return;
         }
     }
     again(
-        len, time, sample, left, right, parent, child, bl, br, position, site, node, edges,
-        mutations, stood, out_left, out_right, out_parent, out_child, out_site, out_node,
+        len,
+        tables,
+        sample,
+        bl,
+        br,
+        first.made,
+        first.moved,
+        stood,
+        out_left,
+        out_right,
+        out_parent,
+        out_child,
+        out_site,
+        out_node,
     );
 }

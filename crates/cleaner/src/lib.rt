@@ -11,13 +11,14 @@ ghost use Rattle.meaning.specs.Clean.{outcome_of, cleaning};
 
 mod fill;
 mod finish;
+mod first;
 mod lists;
 mod rank;
 mod sound;
 mod store;
 mod trace;
 
-use meaning::columns::Lent;
+use meaning::columns::{Ages, EdgeColumns, Lent, MutationColumns, SiteColumns, Tables};
 use meaning::{Counts, EdgeTable, NodeTable, Refusal};
 
 // 01's cleaning call, the check of the tables and then the cleaning, for a caller whose block takes so many cells:
@@ -88,20 +89,28 @@ pub fn clean<'a>(
         derived,
     };
     checker::check_all_lent(len, lent, samples, &mut by_child, &mut by_birth)?;
+    let even = Tables {
+        ages: Ages { time, birth },
+        edges: EdgeColumns {
+            left,
+            right,
+            parent,
+            child,
+        },
+        sites: SiteColumns {
+            position,
+            ancestral,
+        },
+        mutations: MutationColumns {
+            site,
+            node,
+            derived,
+        },
+    };
     sound::clean_sound(
         len,
-        time,
-        birth,
+        even,
         population,
-        left,
-        right,
-        parent,
-        child,
-        position,
-        ancestral,
-        site,
-        node,
-        derived,
         samples,
         out_time,
         out_birth,

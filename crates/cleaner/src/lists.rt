@@ -2,27 +2,18 @@
 ghost use Rattle.meaning.specs.Forest.{stands};
 ghost use Rattle.meaning.specs.Clean.{cleaned};
 ghost use Rattle.order.specs.Ranks.{Ranked};
-ghost use Rattle.cleaner.specs.Work.{Ready};
+ghost use Rattle.cleaner.specs.Work.{Ready, whole_in, store_in, moves_in};
 ghost use Rattle.cleaner.specs.Lists.{RoomForLists, ListsWritten};
-ghost use Rattle.sweep.specs.Columns.{moves_of, store_of};
 
+use crate::first::FirstSweep;
 use crate::{fill, finish};
+use meaning::columns::Tables;
 
 // Tables 2 and 4: the sweep's lists at the fronts of the columns, then the edges in key order and all rows by their places.
 pub fn write_lists(
     len: u32,
-    time: &[u32],
-    birth: &[u32],
+    tables: Tables,
     population: &[u16],
-    left: &[u32],
-    right: &[u32],
-    parent: &[u32],
-    child: &[u32],
-    position: &[u32],
-    ancestral: &[u8],
-    site: &[u32],
-    node: &[u32],
-    derived: &[u8],
     samples: &[u32],
     by_birth: &[u32],
     kept: &[u32],
@@ -30,16 +21,9 @@ pub fn write_lists(
     sample: &[u8],
     bl: &mut [u32],
     br: &mut [u32],
-    fl: &[u32],
-    fr: &[u32],
-    fp: &[u32],
-    fc: &[u32],
+    first: FirstSweep,
     stood: &mut [u8],
-    mrow: &[u32],
-    mlow: &[u32],
     nodes: usize,
-    edges: usize,
-    mutations: usize,
     out_left: &mut [u32],
     out_right: &mut [u32],
     out_parent: &mut [u32],
@@ -48,14 +32,7 @@ pub fn write_lists(
     out_node: &mut [u32],
     out_derived: &mut [u8],
 )
-    requires { Ready len
-        (record {
-          nodes = record { time = time.now; birth = birth.now; population = population.now };
-          edges = record { left = left.now; right = right.now; parent = parent.now; child = child.now };
-          sites = record { position = position.now; ancestral = ancestral.now };
-          muts = record { site = site.now; node = node.now; derived = derived.now };
-        })
-        samples.now
+    requires { Ready len (whole_in tables population.now) samples.now
         (record {
           kept = kept.now;
           nodes = nodes;
@@ -63,21 +40,14 @@ pub fn write_lists(
           sample = sample.now;
           by_left = bl.old;
           by_right = br.old;
-          store = store_of fl.now fr.now fp.now fc.now stood.old edges;
-          moves = moves_of mrow.now mlow.now mutations;
+          store = store_in first stood.old;
+          moves = moves_in first;
         }) ×
-        Ranked birth.now by_birth.now ×
-        RoomForLists edges mutations (record { left = out_left.old; right = out_right.old; parent = out_parent.old; child = out_child.old })
+        Ranked tables.ages.birth.now by_birth.now ×
+        RoomForLists first.made first.moved (record { left = out_left.old; right = out_right.old; parent = out_parent.old; child = out_child.old })
         (record { site = out_site.old; node = out_node.old; derived = out_derived.old }) }
     ensures { ListsWritten
-        (cleaned stands len
-        (record {
-          nodes = record { time = time.now; birth = birth.now; population = population.now };
-          edges = record { left = left.now; right = right.now; parent = parent.now; child = child.now };
-          sites = record { position = position.now; ancestral = ancestral.now };
-          muts = record { site = site.now; node = node.now; derived = derived.now };
-        })
-        samples.now)
+        (cleaned stands len (whole_in tables.entry population.now) samples.now)
         (record {
           left = out_left.old;
           right = out_right.old;
@@ -94,18 +64,25 @@ pub fn write_lists(
         (record { site = out_site.new; node = out_node.new; derived = out_derived.new }) }
 {
     fill::fill(
-        len, time, sample, left, right, parent, child, bl, br, position, site, node, fl, fr, fp,
-        fc, mrow, mlow, edges, mutations, stood, out_left, out_right, out_parent, out_child,
+        len, tables, sample, bl, br, first, stood, out_left, out_right, out_parent, out_child,
         out_site, out_node,
     );
     finish::finish_edges(
-        time, birth, by_birth, places, edges, out_left, out_right, out_parent, out_child, bl, br,
+        tables.ages,
+        by_birth,
+        places,
+        first.made,
+        out_left,
+        out_right,
+        out_parent,
+        out_child,
+        bl,
+        br,
     );
     finish::finish_mutations(
         places,
-        site,
-        derived,
-        mutations,
+        tables.mutations,
+        first.moved,
         out_site,
         out_node,
         out_derived,

@@ -1,11 +1,12 @@
 // Rows in the order of a key, and the rows kept with their places.
 ghost use Rattle.std.specs.Prelude.{◌≡◌, ℕ, ◌+◌, ◌-◌, ◌≤◌, length, take};
 ghost use Rattle.meaning.specs.Words.{rows};
-ghost use Rattle.meaning.specs.Rows.{age_table};
+ghost use Rattle.meaning.specs.Columns.{ages_in};
 ghost use Rattle.accepted.specs.Checked.{Apart};
 ghost use Rattle.order.specs.Order.{Inside, SortedFrom, by_keys};
 ghost use Rattle.cleaner.specs.Tracing.{KeptRows};
 
+use meaning::columns::{Ages, EdgeColumns};
 use order::Spare;
 
 // Fills a column with its own row numbers from the last one down.
@@ -32,51 +33,48 @@ fn ranked_down(key: &[u32], idx: &mut [u32], spare: &mut [u32])
 }
 
 // The edges in the orders of left, in bl, and of right, in br.
-pub fn both_orders(
-    len: u32,
-    left: &[u32],
-    right: &[u32],
-    child: &[u32],
-    bl: &mut [u32],
-    br: &mut [u32],
-)
-    requires { (length right.now ≡ length left.now) ×
-        (length child.now ≡ length left.now) ×
-        (length bl.old ≡ length left.now) ×
-        (length br.old ≡ length left.now) ×
-        (length left.now ≤ 4096) }
-    ensures { SortedFrom (by_keys left.now left.now left.now left.now) (rows (λ i. i) (length left.now))
-        bl.new ×
-        SortedFrom (by_keys right.now right.now right.now right.now)
-        (rows (λ i. i) (length right.now)) br.new }
+pub fn both_orders(len: u32, edges: EdgeColumns, bl: &mut [u32], br: &mut [u32])
+    requires { (length bl.old ≡ length edges.left.now) ×
+        (length br.old ≡ length edges.left.now) ×
+        (length edges.left.now ≤ 4096) }
+    ensures { SortedFrom
+        (by_keys edges.entry.left.now edges.entry.left.now edges.entry.left.now edges.entry.left.now)
+        (rows (λ i. i) (length edges.entry.left.now)) bl.new ×
+        SortedFrom
+        (by_keys edges.entry.right.now edges.entry.right.now edges.entry.right.now edges.entry.right.now)
+        (rows (λ i. i) (length edges.entry.right.now)) br.new }
 {
-    ranked_down(left, bl, br);
-    keys::ends::by_right(len, left, right, child, bl, br);
+    ranked_down(edges.left, bl, br);
+    keys::ends::by_right(len, edges.left, edges.right, edges.child, bl, br);
 }
 
 // The other rows kept behind the ns samples' rows, and every row's place; how many rows are kept.
 pub fn keep_rows(
-    time: &[u32],
-    birth: &[u32],
+    ages: Ages,
     sample: &[u8],
     stood: &[u8],
     ns: usize,
     kept: &mut [u32],
     places: &mut [u32],
 ) -> usize
-    requires { (length time.now ≤ length sample.now) ×
-        (length time.now ≤ length stood.now) ×
-        (length birth.now ≡ length time.now) ×
-        (ns + length time.now ≤ length kept.old) ×
+    requires { (length ages.time.now ≤ length sample.now) ×
+        (length ages.time.now ≤ length stood.now) ×
+        (ns + length ages.time.now ≤ length kept.old) ×
         (length kept.old ≤ 4294967295) ×
-        (length time.now ≤ length places.old) ×
-        Apart birth.now ×
-        Inside (length time.now) (take ns kept.old) }
-    ensures { KeptRows (age_table time.now birth.now) sample.now stood.now ns kept.old result
+        (length ages.time.now ≤ length places.old) ×
+        Apart ages.birth.now ×
+        Inside (length ages.time.now) (take ns kept.old) }
+    ensures { KeptRows (ages_in ages.entry) sample.now stood.now ns kept.old result
         kept.new places.new }
 {
-    let n = time.len();
-    let no = keeping::others(&stood[..n], &sample[..n], time, birth, &mut kept[ns..]);
+    let n = ages.time.len();
+    let no = keeping::others(
+        &stood[..n],
+        &sample[..n],
+        ages.time,
+        ages.birth,
+        &mut kept[ns..],
+    );
     let k = ns + no;
     keeping::places(kept, k, kept, 0, &mut places[..n]);
     k

@@ -2,17 +2,20 @@
 // have room for it (every finished edge within the limit, and so many mutations); where they have not, a second sweep writes it to the lent
 // columns.
 ghost use Rattle.std.specs.Prelude.{◌≡◌, List, ℕ, length};
-ghost use Rattle.meaning.specs.Rows.{age_table, node_table, edge_table, site_table, mutation_table, tables};
+ghost use Rattle.meaning.specs.Columns.{ages_in, edges_in};
+ghost use Rattle.meaning.specs.Rows.{node_table, edge_table, site_table, mutation_table, tables};
 ghost use Rattle.meaning.specs.Answer.{limits};
 ghost use Rattle.meaning.specs.Clean.{outcome_of};
 ghost use Rattle.order.specs.Ranks.{Ranked};
 ghost use Rattle.byrows.specs.Ground.{Ground};
 ghost use Rattle.cleaner.specs.Outcome.{after_check};
 ghost use Rattle.cleaner.specs.Tracing.{Passed};
-ghost use Rattle.cleaner.specs.Work.{Ready};
+ghost use Rattle.cleaner.specs.Work.{Ready, whole_in};
 ghost use Rattle.sweep.specs.Columns.{moves_of, store_of};
 
+use crate::first::FirstSweep;
 use crate::{lists, rank, store, trace};
+use meaning::columns::{EdgeColumns, Tables};
 use meaning::{Counts, EdgeTable, NodeTable, Refusal};
 use writing::{Lengths, Needs};
 
@@ -34,15 +37,7 @@ struct Sizes {
 // kept and their places.
 fn work(
     len: u32,
-    time: &[u32],
-    birth: &[u32],
-    left: &[u32],
-    right: &[u32],
-    parent: &[u32],
-    child: &[u32],
-    position: &[u32],
-    site: &[u32],
-    node: &[u32],
+    tables: Tables,
     samples: &[u32],
     by_birth: &[u32],
     kept: &mut [u32],
@@ -58,26 +53,12 @@ fn work(
     mrow: &mut [u32],
     mlow: &mut [u32],
 ) -> Sizes
-    requires { Passed len
-        (age_table time.now birth.now)
-        (edge_table left.now right.now parent.now child.now) position.now site.now node.now samples.now × ((length kept.old ≡ 1280) × (length places.old ≡ limits.nodes) × (length sample.old ≡ limits.nodes) × (length bl.old ≡ limits.edges) × (length br.old ≡ limits.edges) × (length fr.old ≡ length fl.old) × (length fp.old ≡ length fl.old) × (length fc.old ≡ length fl.old) × (length stood.old ≡ limits.nodes) × (length mlow.old ≡ length mrow.old)) × Ranked birth.now by_birth.now }
-    ensures { (P A D : List ℕ) →
-        Ground limits len
-        (record {
-          nodes = node_table time.now birth.now P;
-          edges = edge_table left.now right.now parent.now child.now;
-          sites = record { position = position.now; ancestral = A };
-          muts = record { site = site.now; node = node.now; derived = D };
-        })
-        samples.now →
-        Ready len
-        (record {
-          nodes = node_table time.now birth.now P;
-          edges = edge_table left.now right.now parent.now child.now;
-          sites = record { position = position.now; ancestral = A };
-          muts = record { site = site.now; node = node.now; derived = D };
-        })
-        samples.now
+    requires { Passed len (ages_in tables.ages) (edges_in tables.edges) tables.sites.position.now tables.mutations.site.now
+        tables.mutations.node.now samples.now ×
+        ((length kept.old ≡ 1280) × (length places.old ≡ limits.nodes) × (length sample.old ≡ limits.nodes) × (length bl.old ≡ limits.edges) × (length br.old ≡ limits.edges) × (length fr.old ≡ length fl.old) × (length fp.old ≡ length fl.old) × (length fc.old ≡ length fl.old) × (length stood.old ≡ limits.nodes) × (length mlow.old ≡ length mrow.old)) × Ranked tables.ages.birth.now by_birth.now }
+    ensures { (P : List ℕ) →
+        Ground limits len (whole_in tables.entry P) samples.now →
+        Ready len (whole_in tables.entry P) samples.now
         (record {
           kept = kept.new;
           nodes = result.nodes;
@@ -89,23 +70,16 @@ fn work(
           moves = moves_of mrow.new mlow.new result.mutations;
         }) }
 {
-    let n = time.len();
-    let e = left.len();
-    keeping::sample_rows(birth, by_birth, samples, kept, &mut sample[..n]);
-    rank::both_orders(len, left, right, child, &mut bl[..e], &mut br[..e]);
+    let n = tables.ages.time.len();
+    let e = tables.edges.left.len();
+    keeping::sample_rows(tables.ages.birth, by_birth, samples, kept, &mut sample[..n]);
+    rank::both_orders(len, tables.edges, &mut bl[..e], &mut br[..e]);
     let found = trace::swept(
         len,
-        time,
+        tables,
         &sample[..n],
-        left,
-        right,
-        parent,
-        child,
         &bl[..e],
         &br[..e],
-        position,
-        site,
-        node,
         fl,
         fr,
         fp,
@@ -114,7 +88,7 @@ fn work(
         mrow,
         mlow,
     );
-    let nodes = rank::keep_rows(time, birth, sample, stood, samples.len(), kept, places);
+    let nodes = rank::keep_rows(tables.ages, sample, stood, samples.len(), kept, places);
     Sizes {
         nodes: nodes,
         edges: found.edges,
@@ -125,18 +99,8 @@ fn work(
 // Cleaning of tables that the check passes, with the nodes by birth as it leaves them; bl is a working column.
 pub fn clean_sound(
     len: u32,
-    time: &[u32],
-    birth: &[u32],
+    even: Tables,
     population: &[u16],
-    left: &[u32],
-    right: &[u32],
-    parent: &[u32],
-    child: &[u32],
-    position: &[u32],
-    ancestral: &[u8],
-    site: &[u32],
-    node: &[u32],
-    derived: &[u8],
     samples: &[u32],
     out_time: &mut [u32],
     out_birth: &mut [u32],
@@ -155,24 +119,16 @@ pub fn clean_sound(
     bl: &mut [u32],
     by_birth: &[u32],
 ) -> Result<Counts, Refusal>
-    requires { Ground limits len
-        (tables
-        (node_table time.now birth.now population.now)
-        (edge_table left.now right.now parent.now child.now)
-        (site_table position.now ancestral.now)
-        (mutation_table site.now node.now derived.now)) samples.now × Ranked birth.now by_birth.now × (length bl.old ≡ limits.edges) }
+    requires { Ground limits len (whole_in even population.now) samples.now ×
+        Ranked even.ages.birth.now by_birth.now ×
+        (length bl.old ≡ limits.edges) }
     ensures { outcome_of result
         (tables
         (node_table out_time.new out_birth.new out_population.new)
         (edge_table out_left.new out_right.new out_parent.new out_child.new)
         (site_table out_position.new out_ancestral.new)
         (mutation_table out_site.new out_node.new out_derived.new)) out_map.new
-        ≡ after_check len
-        (tables
-        (node_table time.now birth.now population.now)
-        (edge_table left.now right.now parent.now child.now)
-        (site_table position.now ancestral.now)
-        (mutation_table site.now node.now derived.now)) samples.now
+        ≡ after_check len (whole_in even.entry population.now) samples.now
         (tables
         (node_table out_time.old out_birth.old out_population.old)
         (edge_table out_left.old out_right.old out_parent.old out_child.old)
@@ -192,15 +148,7 @@ pub fn clean_sound(
     let mut mlow = [0u32; MOVES];
     let z = work(
         len,
-        time,
-        birth,
-        left,
-        right,
-        parent,
-        child,
-        position,
-        site,
-        node,
+        even,
         samples,
         by_birth,
         &mut kept,
@@ -219,9 +167,9 @@ pub fn clean_sound(
     let need = Needs {
         nodes: z.nodes,
         edges: z.edges,
-        sites: position.len(),
+        sites: even.sites.position.len(),
         mutations: z.mutations,
-        rows: time.len(),
+        rows: even.ages.time.len(),
     };
     let lent = Lengths {
         time: out_time.len(),
@@ -239,9 +187,20 @@ pub fn clean_sound(
         nodemap: out_map.len(),
     };
     writing::within::check_room_and_block(need, lent, cells)?;
+    let first = FirstSweep {
+        edges: EdgeColumns {
+            left: &fl,
+            right: &fr,
+            parent: &fp,
+            child: &fc,
+        },
+        row: &mrow,
+        low: &mlow,
+        made: z.edges,
+        moved: z.mutations,
+    };
     store::write_nodes(
-        time,
-        birth,
+        even.ages,
         population,
         &kept,
         z.nodes,
@@ -249,21 +208,11 @@ pub fn clean_sound(
         out_birth,
         out_population,
     );
-    store::write_sites(position, ancestral, out_position, out_ancestral);
+    store::write_sites(even.sites, out_position, out_ancestral);
     lists::write_lists(
         len,
-        time,
-        birth,
+        even,
         population,
-        left,
-        right,
-        parent,
-        child,
-        position,
-        ancestral,
-        site,
-        node,
-        derived,
         samples,
         by_birth,
         &kept,
@@ -271,16 +220,9 @@ pub fn clean_sound(
         &sample,
         bl,
         &mut br,
-        &fl,
-        &fr,
-        &fp,
-        &fc,
+        first,
         &mut stood,
-        &mrow,
-        &mlow,
         z.nodes,
-        z.edges,
-        z.mutations,
         out_left,
         out_right,
         out_parent,
@@ -289,11 +231,11 @@ pub fn clean_sound(
         out_node,
         out_derived,
     );
-    writing::copy(&places, time.len(), out_map);
+    writing::copy(&places, even.ages.time.len(), out_map);
     Ok(Counts {
         nodes: z.nodes,
         edges: z.edges,
-        sites: position.len(),
+        sites: even.sites.position.len(),
         mutations: z.mutations,
     })
 }

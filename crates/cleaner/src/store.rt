@@ -4,10 +4,11 @@ ghost use Rattle.meaning.specs.Words.{at};
 ghost use Rattle.meaning.specs.Answer.{put};
 ghost use Rattle.order.specs.Order.{Inside};
 
+use meaning::columns::{Ages, SiteColumns};
+
 // Table 1: the rows kept.
 pub fn write_nodes(
-    time: &[u32],
-    birth: &[u32],
+    ages: Ages,
     population: &[u16],
     kept: &[u32],
     k: usize,
@@ -19,31 +20,24 @@ pub fn write_nodes(
         (k ≤ length out_time.old) ×
         (k ≤ length out_birth.old) ×
         (k ≤ length out_population.old) ×
-        Inside (length time.now) (take k kept.now) ×
-        (length birth.now ≡ length time.now) ×
-        (length population.now ≡ length time.now) }
-    ensures { (out_time.new ≡ put (map (at time.now) (take k kept.now)) out_time.old) ×
-        (out_birth.new ≡ put (map (at birth.now) (take k kept.now)) out_birth.old) ×
+        Inside (length ages.time.now) (take k kept.now) ×
+        (length population.now ≡ length ages.time.now) }
+    ensures { (out_time.new ≡ put (map (at ages.entry.time.now) (take k kept.now)) out_time.old) ×
+        (out_birth.new ≡ put (map (at ages.entry.birth.now) (take k kept.now)) out_birth.old) ×
         (out_population.new ≡ put (map (at population.now) (take k kept.now)) out_population.old) }
 {
-    writing::gather(time, kept, k, out_time);
-    writing::gather(birth, kept, k, out_birth);
+    writing::gather(ages.time, kept, k, out_time);
+    writing::gather(ages.birth, kept, k, out_birth);
     writing::gather(population, kept, k, out_population);
 }
 
 // Table 3: all sites, unchanged.
-pub fn write_sites(
-    position: &[u32],
-    ancestral: &[u8],
-    out_position: &mut [u32],
-    out_ancestral: &mut [u8],
-)
-    requires { (length ancestral.now ≡ length position.now) ×
-        (length position.now ≤ length out_position.old) ×
-        (length position.now ≤ length out_ancestral.old) }
-    ensures { (out_position.new ≡ put position.now out_position.old) ×
-        (out_ancestral.new ≡ put ancestral.now out_ancestral.old) }
+pub fn write_sites(sites: SiteColumns, out_position: &mut [u32], out_ancestral: &mut [u8])
+    requires { (length sites.position.now ≤ length out_position.old) ×
+        (length sites.position.now ≤ length out_ancestral.old) }
+    ensures { (out_position.new ≡ put sites.entry.position.now out_position.old) ×
+        (out_ancestral.new ≡ put sites.entry.ancestral.now out_ancestral.old) }
 {
-    writing::copy(position, position.len(), out_position);
-    writing::copy(ancestral, position.len(), out_ancestral);
+    writing::copy(sites.position, sites.position.len(), out_position);
+    writing::copy(sites.ancestral, sites.position.len(), out_ancestral);
 }

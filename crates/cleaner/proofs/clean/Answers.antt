@@ -6,12 +6,24 @@ use Rattle.meaning.specs.Rows.{node_table, edge_table, site_table, mutation_tabl
 use Rattle.meaning.specs.Clean.{outcome_of}
 use Prim.Native.Nat.{ℕ}
 use lib.ListN.{length-replicate}
-use Rattle.cleaner.proofs.Calling.{grounded, births_room, call_refused, call_done}
+use Rattle.cleaner.proofs.Calling.{grounded, shaped, births_room, call_refused, call_done}
 use native.Mathlib.Omega.{arith}
 use Rattle.cleaner.proofs.clean.Goals as goal
 
 pub check_all_lent-requires : goal.check_all_lent-requires
 check_all_lent-requires c = (length-replicate {A = ℕ} 4096 0, length-replicate {A = ℕ} 1024 0)
+
+pub invariant_of-even : goal.invariant_of-even
+invariant_of-even c = record { even = record { birth_long = (shaped _ _ _ _ c.check_all_lent.ensures.0 c.in_ok-check_all_lent.was).births } }
+
+pub invariant_of-even-2 : goal.invariant_of-even-2
+invariant_of-even-2 c = let s : _ = shaped _ _ _ _ c.check_all_lent.ensures.0 c.in_ok-check_all_lent.was in record { even = record { right_long = s.rights; parent_long = s.parents; child_long = s.children } }
+
+pub invariant_of-even-3 : goal.invariant_of-even-3
+invariant_of-even-3 c = record { even = record { ancestral_long = (shaped _ _ _ _ c.check_all_lent.ensures.0 c.in_ok-check_all_lent.was).states } }
+
+pub invariant_of-even-4 : goal.invariant_of-even-4
+invariant_of-even-4 c = let s : _ = shaped _ _ _ _ c.check_all_lent.ensures.0 c.in_ok-check_all_lent.was in record { even = record { node_long = s.mutated; derived_long = s.derived } }
 
 pub slice_bounds-clean_sound-end : goal.slice_bounds-clean_sound-end
 slice_bounds-clean_sound-end c = sym (c.check_all_lent.auto.by_child ∙ length-replicate {A = ℕ} 4096 0)

@@ -8,13 +8,13 @@ use native.Mathlib.Omega.{arith}
 use Rattle.cleaner.proofs.fill.again.Goals as goal
 
 pub slice_bounds-swept-end : goal.slice_bounds-swept-end
-slice_bounds-swept-end c = cut (length c.args.time.now) c.args.sample.now c.requires.1
+slice_bounds-swept-end c = cut (length c.args.tables.ages.time.now) c.args.sample.now c.requires.1
 
 pub slice_bounds-swept-end-2 : goal.slice_bounds-swept-end-2
-slice_bounds-swept-end-2 c = cut (length c.args.left.now) c.args.bl.now c.requires.2
+slice_bounds-swept-end-2 c = cut (length c.args.tables.edges.left.now) c.args.bl.now c.requires.2
 
 pub slice_bounds-swept-end-3 : goal.slice_bounds-swept-end-3
-slice_bounds-swept-end-3 c = cut (length c.args.left.now) c.args.br.now c.requires.3
+slice_bounds-swept-end-3 c = cut (length c.args.tables.edges.left.now) c.args.br.now c.requires.3
 
 pub slice_bounds-swept-end-4 : goal.slice_bounds-swept-end-4
 slice_bounds-swept-end-4 c = c.requires.5
@@ -44,7 +44,7 @@ pub slice_bounds-swept-end-12 : goal.slice_bounds-swept-end-12
 slice_bounds-swept-end-12 c = c.requires.4
 
 pub slice_bounds-swept-end-13 : goal.slice_bounds-swept-end-13
-slice_bounds-swept-end-13 c = cut (length c.args.time.now) c.args.stood.now c.requires.4
+slice_bounds-swept-end-13 c = cut (length c.args.tables.ages.time.now) c.args.stood.now c.requires.4
 
 pub slice_bounds-swept-end-14 : goal.slice_bounds-swept-end-14
 slice_bounds-swept-end-14 c = c.requires.9
@@ -59,10 +59,10 @@ pub slice_bounds-swept-end-17 : goal.slice_bounds-swept-end-17
 slice_bounds-swept-end-17 c = cut c.args.mutations c.args.out_node.now c.requires.10
 
 pub swept-requires : goal.swept-requires
-swept-requires c = (c.requires.0, record { right_long = sym (cut c.args.edges c.args.out_right.now c.requires.6) ∙ (cut c.args.edges c.args.out_left.now c.requires.5); parent_long = sym (cut c.args.edges c.args.out_parent.now c.requires.7) ∙ (cut c.args.edges c.args.out_left.now c.requires.5); child_long = sym (cut c.args.edges c.args.out_child.now c.requires.8) ∙ (cut c.args.edges c.args.out_left.now c.requires.5); stood_long = sym (cut (length c.args.time.now) c.args.stood.now c.requires.4) }, sym (cut c.args.mutations c.args.out_node.now c.requires.10) ∙ (cut c.args.mutations c.args.out_site.now c.requires.9))
+swept-requires c = (c.requires.0, record { right_long = sym (cut c.args.edges c.args.out_right.now c.requires.6) ∙ (cut c.args.edges c.args.out_left.now c.requires.5); parent_long = sym (cut c.args.edges c.args.out_parent.now c.requires.7) ∙ (cut c.args.edges c.args.out_left.now c.requires.5); child_long = sym (cut c.args.edges c.args.out_child.now c.requires.8) ∙ (cut c.args.edges c.args.out_left.now c.requires.5); stood_long = sym (cut (length c.args.tables.ages.time.now) c.args.stood.now c.requires.4) }, sym (cut c.args.mutations c.args.out_node.now c.requires.10) ∙ (cut c.args.mutations c.args.out_site.now c.requires.9))
 
 pub shape_of-stood : goal.shape_of-stood
-shape_of-stood c = length_front c.args.stood.now c.swept.new.stood (length c.args.time.now) c.swept.auto.stood
+shape_of-stood c = length_front c.args.stood.now c.swept.new.stood (length c.args.tables.ages.time.now) c.swept.auto.stood
 
 pub shape_of-out_left : goal.shape_of-out_left
 shape_of-out_left c = length_front c.args.out_left.now c.swept.new.fl c.args.edges c.swept.auto.fl

@@ -1,17 +1,18 @@
 -- `cleaner::fill::copy_edges` meets its contract: four columns copied.
+use native.Mathlib.Omega.{arith}
 use Rattle.cleaner.proofs.fill.copy_edges.Goals as goal
 
 pub copy-requires : goal.copy-requires
-copy-requires c = (c.requires.0, c.requires.4)
+copy-requires c = (c.requires.0, c.requires.1)
 
 pub copy-requires-2 : goal.copy-requires-2
-copy-requires-2 c = (c.requires.1, c.requires.5)
+copy-requires-2 c = (omega (arith, c.requires.0, c.args.edges.even.right_long), c.requires.2)
 
 pub copy-requires-3 : goal.copy-requires-3
-copy-requires-3 c = (c.requires.2, c.requires.6)
+copy-requires-3 c = (omega (arith, c.requires.0, c.args.edges.even.parent_long), c.requires.3)
 
 pub copy-requires-4 : goal.copy-requires-4
-copy-requires-4 c = (c.requires.3, c.requires.7)
+copy-requires-4 c = (omega (arith, c.requires.0, c.args.edges.even.child_long), c.requires.4)
 
 pub shape_of-out_left : goal.shape_of-out_left
 shape_of-out_left c = c.copy.auto.out

@@ -8,16 +8,16 @@ use native.Mathlib.Omega.{arith}
 use Rattle.cleaner.proofs.finish.finish_edges.Goals as goal
 
 pub order_edges-requires : goal.order_edges-requires
-order_edges-requires c = (c.requires.0, c.requires.1, c.requires.2, c.requires.3, c.requires.6, c.requires.7, c.requires.8, c.requires.9, c.requires.10, c.requires.11, c.requires.12)
+order_edges-requires c = (c.args.ages.even.birth_long, c.requires.0, c.requires.1, c.requires.2, c.requires.5, c.requires.6, c.requires.7, c.requires.8, c.requires.9, c.requires.10, c.requires.11)
 
 pub reorder_edges-requires : goal.reorder_edges-requires
-reorder_edges-requires c = (omega (arith, c.requires.8, c.order_edges.auto.order), omega (arith, c.requires.9, c.order_edges.auto.spare), c.requires.4, c.requires.5, c.requires.6, c.requires.7, ordered_inside _ c.args.k (take c.args.k c.order_edges.new.order) (c.order_edges.ensures c.args.left.now c.requires.4 c.requires.13))
+reorder_edges-requires c = (omega (arith, c.requires.7, c.order_edges.auto.order), omega (arith, c.requires.8, c.order_edges.auto.spare), c.requires.3, c.requires.4, c.requires.5, c.requires.6, ordered_inside _ c.args.k (take c.args.k c.order_edges.new.order) (c.order_edges.ensures c.args.left.now c.requires.3 c.requires.12))
 
 pub rename-requires : goal.rename-requires
-rename-requires c = omega (arith, c.requires.6, c.reorder_edges.auto.parent)
+rename-requires c = omega (arith, c.requires.5, c.reorder_edges.auto.parent)
 
 pub rename-requires-2 : goal.rename-requires-2
-rename-requires-2 c = omega (arith, c.requires.7, c.reorder_edges.auto.child)
+rename-requires-2 c = omega (arith, c.requires.6, c.reorder_edges.auto.child)
 
 pub shape_of-left : goal.shape_of-left
 shape_of-left c = c.reorder_edges.auto.left
@@ -40,9 +40,9 @@ shape_of-spare c = c.reorder_edges.auto.spare ∙ c.order_edges.auto.spare
 pub returns : goal.returns
 returns c = record {
   order = take c.args.k c.order_edges.new.order;
-  sorted = c.order_edges.ensures c.args.left.now c.requires.4 c.requires.13;
+  sorted = c.order_edges.ensures c.args.left.now c.requires.3 c.requires.12;
   lefts = c.reorder_edges.ensures.0;
   rights = c.reorder_edges.ensures.1;
-  parents = renamed_after (at c.args.parent.now) (renamed c.args.places.now) c.order_edges.new.order c.args.parent.now c.reorder_edges.new.parent c.rename.new.col c.args.k (omega (arith, c.requires.8, c.order_edges.auto.order)) c.reorder_edges.ensures.2 c.rename.ensures;
-  children = renamed_after (at c.args.child.now) (renamed c.args.places.now) c.order_edges.new.order c.args.child.now c.reorder_edges.new.child c.rename-2.new.col c.args.k (omega (arith, c.requires.8, c.order_edges.auto.order)) c.reorder_edges.ensures.3 c.rename-2.ensures;
+  parents = renamed_after (at c.args.parent.now) (renamed c.args.places.now) c.order_edges.new.order c.args.parent.now c.reorder_edges.new.parent c.rename.new.col c.args.k (omega (arith, c.requires.7, c.order_edges.auto.order)) c.reorder_edges.ensures.2 c.rename.ensures;
+  children = renamed_after (at c.args.child.now) (renamed c.args.places.now) c.order_edges.new.order c.args.child.now c.reorder_edges.new.child c.rename-2.new.col c.args.k (omega (arith, c.requires.7, c.order_edges.auto.order)) c.reorder_edges.ensures.3 c.rename-2.ensures;
 }

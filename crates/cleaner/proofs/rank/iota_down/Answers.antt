@@ -1,5 +1,4 @@
 -- `iota_down` meets its contract. Invariant: each cell passed holds its row from the end. Measure: the cells left.
-use Prim.Native.Nat.{◌-◌}
 use native.Mathlib.Omega.{arith}
 use borrow.Author.Rules.{rules}
 use Rattle.cleaner.proofs.Ranking.{down_place, down_places}

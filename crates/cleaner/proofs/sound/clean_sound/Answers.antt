@@ -8,7 +8,7 @@ use Rattle.meaning.specs.Rows.{node_table, edge_table, site_table, mutation_tabl
 use mathlib.Core.Path.{refl, sym, ◌∙◌, ap}
 use Prim.Native.Nat.{ℕ}
 use lib.ListN.{length-replicate}
-use Rattle.cleaner.proofs.Storing.{nodes_ready, states_even, map_room, refused_after, done_after, room_left, lists_room}
+use Rattle.cleaner.proofs.Storing.{nodes_ready, map_room, refused_after, done_after, room_left, lists_room}
 use Rattle.cleaner.proofs.sound.clean_sound.Goals as goal
 
 pub slice_bounds-work-end : goal.slice_bounds-work-end
@@ -54,16 +54,22 @@ pub returns-in_err-check_room_and_block : goal.returns-in_err-check_room_and_blo
 returns-in_err-check_room_and_block c =
     let out : _ = (tables (node_table c.args.out_time.now c.args.out_birth.now c.args.out_population.now) (edge_table c.args.out_left.now c.args.out_right.now c.args.out_parent.now c.args.out_child.now) (site_table c.args.out_position.now c.args.out_ancestral.now) (mutation_table c.args.out_site.now c.args.out_node.now c.args.out_derived.now)) in
     ap (λ (a : Tabled). outcome_of a out c.args.out_map.now) (passed_on c.from_residual.ensures.1)
-    ∙ refused_after (c.work-z.ensures _ _ _ c.requires.0) out c.args.out_map.now c.args.cells _ (refusal_refuses _) (ap checked_of (sym c.in_err-check_room_and_block.was) ∙ c.check_room_and_block.ensures)
+    ∙ refused_after (c.work-z.ensures _ c.requires.0) out c.args.out_map.now c.args.cells _ (refusal_refuses _) (ap checked_of (sym c.in_err-check_room_and_block.was) ∙ c.check_room_and_block.ensures)
+
+pub invariant_of-first : goal.invariant_of-first
+invariant_of-first c = record { even = record { right_long = c.work-z.auto.fr ∙ sym c.work-z.auto.fl; parent_long = c.work-z.auto.fp ∙ sym c.work-z.auto.fl; child_long = c.work-z.auto.fc ∙ sym c.work-z.auto.fl } }
+
+pub invariant_of-first-2 : goal.invariant_of-first-2
+invariant_of-first-2 c = record { even = c.work-z.auto.mlow ∙ sym c.work-z.auto.mrow }
 
 pub slice_bounds-write_nodes-end : goal.slice_bounds-write_nodes-end
 slice_bounds-write_nodes-end c = sym (c.work-z.auto.kept ∙ length-replicate {A = ℕ} 1280 0)
 
 pub write_nodes-requires : goal.write_nodes-requires
-write_nodes-requires c = nodes_ready (c.work-z.ensures _ _ _ c.requires.0) refl (room_left _ _ _ (ap checked_of (sym c.in_ok-check_room_and_block.was) ∙ c.check_room_and_block.ensures))
+write_nodes-requires c = nodes_ready (c.work-z.ensures _ c.requires.0) refl (room_left _ _ _ (ap checked_of (sym c.in_ok-check_room_and_block.was) ∙ c.check_room_and_block.ensures))
 
 pub write_sites-requires : goal.write_sites-requires
-write_sites-requires c = (states_even (c.work-z.ensures _ _ _ c.requires.0), (room_left _ _ _ (ap checked_of (sym c.in_ok-check_room_and_block.was) ∙ c.check_room_and_block.ensures)).position, (room_left _ _ _ (ap checked_of (sym c.in_ok-check_room_and_block.was) ∙ c.check_room_and_block.ensures)).ancestral)
+write_sites-requires c = ((room_left _ _ _ (ap checked_of (sym c.in_ok-check_room_and_block.was) ∙ c.check_room_and_block.ensures)).position, (room_left _ _ _ (ap checked_of (sym c.in_ok-check_room_and_block.was) ∙ c.check_room_and_block.ensures)).ancestral)
 
 pub slice_bounds-write_lists-end : goal.slice_bounds-write_lists-end
 slice_bounds-write_lists-end c = sym (c.work-z.auto.kept ∙ length-replicate {A = ℕ} 1280 0)
@@ -78,34 +84,16 @@ pub slice_bounds-write_lists-end-4 : goal.slice_bounds-write_lists-end-4
 slice_bounds-write_lists-end-4 c = sym (c.work-z.auto.br ∙ length-replicate {A = ℕ} 4096 0)
 
 pub slice_bounds-write_lists-end-5 : goal.slice_bounds-write_lists-end-5
-slice_bounds-write_lists-end-5 c = sym (c.work-z.auto.fl ∙ length-replicate {A = ℕ} 4096 0)
-
-pub slice_bounds-write_lists-end-6 : goal.slice_bounds-write_lists-end-6
-slice_bounds-write_lists-end-6 c = sym (c.work-z.auto.fr ∙ length-replicate {A = ℕ} 4096 0)
-
-pub slice_bounds-write_lists-end-7 : goal.slice_bounds-write_lists-end-7
-slice_bounds-write_lists-end-7 c = sym (c.work-z.auto.fp ∙ length-replicate {A = ℕ} 4096 0)
-
-pub slice_bounds-write_lists-end-8 : goal.slice_bounds-write_lists-end-8
-slice_bounds-write_lists-end-8 c = sym (c.work-z.auto.fc ∙ length-replicate {A = ℕ} 4096 0)
-
-pub slice_bounds-write_lists-end-9 : goal.slice_bounds-write_lists-end-9
-slice_bounds-write_lists-end-9 c = sym (c.work-z.auto.stood ∙ length-replicate {A = ℕ} 1024 0)
-
-pub slice_bounds-write_lists-end-10 : goal.slice_bounds-write_lists-end-10
-slice_bounds-write_lists-end-10 c = sym (c.work-z.auto.mrow ∙ length-replicate {A = ℕ} 512 0)
-
-pub slice_bounds-write_lists-end-11 : goal.slice_bounds-write_lists-end-11
-slice_bounds-write_lists-end-11 c = sym (c.work-z.auto.mlow ∙ length-replicate {A = ℕ} 512 0)
+slice_bounds-write_lists-end-5 c = sym (c.work-z.auto.stood ∙ length-replicate {A = ℕ} 1024 0)
 
 pub write_lists-requires : goal.write_lists-requires
-write_lists-requires c = (c.work-z.ensures _ _ _ c.requires.0, c.requires.1, lists_room (room_left _ _ _ (ap checked_of (sym c.in_ok-check_room_and_block.was) ∙ c.check_room_and_block.ensures)) refl refl refl refl refl refl refl)
+write_lists-requires c = (c.work-z.ensures _ c.requires.0, c.requires.1, lists_room (room_left _ _ _ (ap checked_of (sym c.in_ok-check_room_and_block.was) ∙ c.check_room_and_block.ensures)) refl refl refl refl refl refl refl)
 
 pub slice_bounds-copy-end : goal.slice_bounds-copy-end
 slice_bounds-copy-end c = sym (c.work-z.auto.places ∙ length-replicate {A = ℕ} 1024 0)
 
 pub copy-requires : goal.copy-requires
-copy-requires c = (map_room (c.work-z.ensures _ _ _ c.requires.0), (room_left _ _ _ (ap checked_of (sym c.in_ok-check_room_and_block.was) ∙ c.check_room_and_block.ensures)).nodemap)
+copy-requires c = (map_room (c.work-z.ensures _ c.requires.0), (room_left _ _ _ (ap checked_of (sym c.in_ok-check_room_and_block.was) ∙ c.check_room_and_block.ensures)).nodemap)
 
 pub shape_of-out_time : goal.shape_of-out_time
 shape_of-out_time c = c.write_nodes.auto.out_time
@@ -150,4 +138,4 @@ pub shape_of-bl : goal.shape_of-bl
 shape_of-bl c = c.write_lists.auto.bl ∙ c.work-z.auto.bl
 
 pub returns : goal.returns
-returns c = done_after (c.work-z.ensures _ _ _ c.requires.0) _ _ _ (sym c.check_room_and_block.ensures ∙ ap checked_of c.in_ok-check_room_and_block.was) _ _ c.write_nodes.ensures.0 c.write_nodes.ensures.1 c.write_nodes.ensures.2 c.write_sites.ensures.0 c.write_sites.ensures.1 c.write_lists.ensures c.copy.ensures
+returns c = done_after (c.work-z.ensures _ c.requires.0) _ _ _ (sym c.check_room_and_block.ensures ∙ ap checked_of c.in_ok-check_room_and_block.was) _ _ c.write_nodes.ensures.0 c.write_nodes.ensures.1 c.write_nodes.ensures.2 c.write_sites.ensures.0 c.write_sites.ensures.1 c.write_lists.ensures c.copy.ensures
