@@ -22,7 +22,8 @@ impl<'a> Page<'a> {
         self.len += 1;
     }
 
-    // A number in decimal digits. It calls itself for all digits but the last; the number falls.
+    // A number in decimal digits, written by hand since nothing is known of the bytes that the library's printing writes. It calls itself
+    // for all digits but the last; the number falls.
     pub fn number(&mut self, n: usize)
         requires { self.old.len + length (decimal n) ≤ length self.old.out.now }
         ensures wrote { Wrote self.old.len (decimal n) self.old.out.now self.new.out.now self.new.len }

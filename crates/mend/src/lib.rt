@@ -93,7 +93,7 @@ pub fn climb_up(
     NONE
 }
 
-// q0 has d0 in excess; the answer is the row where mending ends.
+// q0 has d0 in excess; the answer is the row where mending ends. The way down reads the sums and the way up the lows, so they are two.
 pub fn climb_down(
     time: &[u32],
     sample: &[u8],

@@ -41,7 +41,8 @@ pub fn gain(
     seat(up, touched, listed, k, w, z, s, o)
 }
 
-// s, a live row or none, has lost the live child below which w stands. The answer is the new number of listed rows.
+// s, a live row or none, has lost the live child below which w stands. The answer is the new number of listed rows. It is not gain with a
+// flag: it asks for another label and other rows to be seated, so one function for both would ask both.
 pub fn lose(
     time: &[u32],
     sample: &[u8],

@@ -77,7 +77,7 @@ fn end_edges(
     }
 }
 
-// The edges that begin at x or before enter.
+// The edges that begin at x or before enter. They go by the other order and the other end than those that leave.
 fn begin_edges(
     time: &[u32],
     sample: &[u8],

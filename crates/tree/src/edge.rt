@@ -88,7 +88,8 @@ pub fn insert_up(
     k
 }
 
-// An edge leaves: c has no parent any more. The answer is the new number of listed rows.
+// An edge leaves: c has no parent any more. The answer is the new number of listed rows. It mends downwards where insert_up mends upwards,
+// with other columns, so they are two.
 pub fn remove_up(
     time: &[u32],
     sample: &[u8],
