@@ -1,7 +1,7 @@
 // The sweep's lists in the lent columns of the result: copied where the first sweep could keep them, else swept again.
 ghost use Rattle.std.specs.Prelude.{◌≡◌, List, ℕ, suc, ◌≤◌, length, take};
 ghost use Rattle.meaning.specs.Rows.{edge_table};
-ghost use Rattle.meaning.specs.Answer.{limits, put};
+ghost use Rattle.meaning.specs.Answer.{limits};
 ghost use Rattle.tree.specs.TreeAt.{Flags};
 ghost use Rattle.placing.specs.Placing.{Moves};
 ghost use Rattle.runs.specs.Runs.{Store};
@@ -11,32 +11,8 @@ ghost use Rattle.cleaner.specs.Finishing.{Fillable, Filled};
 ghost use Rattle.cleaner.specs.Work.{fronts_in, store_in, moves_in};
 
 use crate::first::FirstSweep;
-use meaning::columns::{EdgeColumns, Tables};
-
-// The first k edges, to the fronts of four columns.
-fn copy_edges(
-    edges: EdgeColumns,
-    k: usize,
-    out_left: &mut [u32],
-    out_right: &mut [u32],
-    out_parent: &mut [u32],
-    out_child: &mut [u32],
-)
-    requires { (k ≤ length edges.left.now) ×
-        (k ≤ length out_left.old) ×
-        (k ≤ length out_right.old) ×
-        (k ≤ length out_parent.old) ×
-        (k ≤ length out_child.old) }
-    ensures { (out_left.new ≡ put (take k edges.entry.left.now) out_left.old) ×
-        (out_right.new ≡ put (take k edges.entry.right.now) out_right.old) ×
-        (out_parent.new ≡ put (take k edges.entry.parent.now) out_parent.old) ×
-        (out_child.new ≡ put (take k edges.entry.child.now) out_child.old) }
-{
-    writing::copy(edges.left, k, out_left);
-    writing::copy(edges.right, k, out_right);
-    writing::copy(edges.parent, k, out_parent);
-    writing::copy(edges.child, k, out_child);
-}
+use crate::out::EdgesOut;
+use meaning::columns::Tables;
 
 // A sweep into the fronts of the lent columns, which finds no more than one edge past the limit.
 fn again(
@@ -131,14 +107,13 @@ pub fn fill(
 {
     if first.made <= first.edges.left.len() {
         if first.moved <= first.row.len() {
-            copy_edges(
-                first.edges,
-                first.made,
-                out_left,
-                out_right,
-                out_parent,
-                out_child,
-            );
+            let mut out = EdgesOut {
+                left: out_left,
+                right: out_right,
+                parent: out_parent,
+                child: out_child,
+            };
+            out.write(first.edges, first.made);
             writing::copy(first.row, first.moved, out_site);
             writing::copy(first.low, first.moved, out_node);
             return;

@@ -10,43 +10,16 @@ ghost use Rattle.order.specs.Ranks.{Ranked};
 ghost use Rattle.keys.specs.Keys.{InTurns};
 ghost use Rattle.cleaner.specs.Finishing.{EdgesDone, MutationsDone};
 
+use crate::out::EdgesOut;
 use meaning::columns::{Ages, MutationColumns};
 
 // The first k cells of a column by an order of its rows, in place; spare is a working column.
-fn reorder(col: &mut [u32], order: &[u32], k: usize, spare: &mut [u32])
+pub fn reorder(col: &mut [u32], order: &[u32], k: usize, spare: &mut [u32])
     requires { (k ≤ length order.now) × (k ≤ length col.old) × (k ≤ length spare.old) × Inside k (take k order.now) }
     ensures { col.new ≡ put (map (at col.old) (take k order.now)) col.old }
 {
     writing::gather(col, order, k, spare);
     writing::copy(spare, k, col);
-}
-
-// Four columns by an order of their rows, in place.
-fn reorder_edges(
-    left: &mut [u32],
-    right: &mut [u32],
-    parent: &mut [u32],
-    child: &mut [u32],
-    order: &[u32],
-    k: usize,
-    spare: &mut [u32],
-)
-    requires { (k ≤ length order.now) ×
-        (k ≤ length spare.old) ×
-        (k ≤ length left.old) ×
-        (k ≤ length right.old) ×
-        (k ≤ length parent.old) ×
-        (k ≤ length child.old) ×
-        Inside k (take k order.now) }
-    ensures { (left.new ≡ put (map (at left.old) (take k order.now)) left.old) ×
-        (right.new ≡ put (map (at right.old) (take k order.now)) right.old) ×
-        (parent.new ≡ put (map (at parent.old) (take k order.now)) parent.old) ×
-        (child.new ≡ put (map (at child.old) (take k order.now)) child.old) }
-{
-    reorder(left, order, k, spare);
-    reorder(right, order, k, spare);
-    reorder(parent, order, k, spare);
-    reorder(child, order, k, spare);
 }
 
 // The first k edges in key order, with the places of their parents and children.
@@ -82,9 +55,15 @@ pub fn finish_edges(
     keys::order_edges(
         ages.time, ages.birth, by_birth, parent, child, k, order, spare,
     );
-    reorder_edges(left, right, parent, child, order, k, spare);
-    writing::rename(places, parent, k);
-    writing::rename(places, child, k);
+    let mut edges = EdgesOut {
+        left,
+        right,
+        parent,
+        child,
+    };
+    edges.reorder(order, k, spare);
+    writing::rename(places, edges.parent, k);
+    writing::rename(places, edges.child, k);
 }
 
 // The first k mutations listed: each row of a mutation becomes its site, with its state beside it, and each row of a node its place.

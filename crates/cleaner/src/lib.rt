@@ -13,6 +13,7 @@ mod fill;
 mod finish;
 mod first;
 mod lists;
+mod out;
 mod rank;
 mod sound;
 mod store;
