@@ -26,7 +26,8 @@ fn refused(x: Refusal, out: &mut [u8]) -> usize
 // So many rows of each table.
 fn fronts(lent: Lent, rows: Counts) -> Lent
     requires { Long (record { nodes = rows.nodes; edges = rows.edges; sites = rows.sites; mutations = rows.mutations }) (lent_in lent) }
-    ensures { lent_in result ≡ front (record { nodes = rows.nodes; edges = rows.edges; sites = rows.sites; mutations = rows.mutations }) (lent_in lent.entry) }
+    ensures { lent_in result
+        ≡ front (record { nodes = rows.nodes; edges = rows.edges; sites = rows.sites; mutations = rows.mutations }) (lent_in lent.entry) }
 {
     Lent {
         time: &lent.time[..rows.nodes],
@@ -49,7 +50,9 @@ fn list_rows(len: u32, lent: Lent, map: &[u32], rows: Counts, k: usize, out: &mu
     requires { Long (record { nodes = rows.nodes; edges = rows.edges; sites = rows.sites; mutations = rows.mutations }) (lent_in lent)
         × (k ≤ length map.now)
         × (room rows.nodes rows.edges rows.sites rows.mutations k ≤ length out.old) }
-    ensures { Printed (listed len (front (record { nodes = rows.nodes; edges = rows.edges; sites = rows.sites; mutations = rows.mutations }) (lent_in lent.entry)) (take k map.now)) out.old out.new result }
+    ensures { Printed (listed len
+        (front (record { nodes = rows.nodes; edges = rows.edges; sites = rows.sites; mutations = rows.mutations }) (lent_in lent.entry))
+        (take k map.now)) out.old out.new result }
 {
     listing::list(len, fronts(lent, rows), &map[..k], out)
 }
@@ -129,7 +132,9 @@ fn clean_rows(len: u32, lent: Lent, samples: &[u32], rows: Rows, out: &mut [u8])
     requires { Long (record { nodes = rows.nodes; edges = rows.edges; sites = rows.sites; mutations = rows.mutations }) (lent_in lent)
         × (rows.samples ≤ length samples.now)
         × (313344 ≤ length out.old) }
-    ensures { Printed (clean_shown len (front (record { nodes = rows.nodes; edges = rows.edges; sites = rows.sites; mutations = rows.mutations }) (lent_in lent.entry)) (take rows.samples samples.now)) out.old out.new result }
+    ensures { Printed (clean_shown len
+        (front (record { nodes = rows.nodes; edges = rows.edges; sites = rows.sites; mutations = rows.mutations }) (lent_in lent.entry))
+        (take rows.samples samples.now)) out.old out.new result }
 {
     let counts = Counts {
         nodes: rows.nodes,
