@@ -9,29 +9,10 @@ use Rattle.meaning.specs.Words.{at}
 use Rattle.laws.specs.Bools.{eq?}
 use Rattle.meaning.specs.Rows.{NodeColumns, EdgeColumns, SiteColumns, MutationColumns, Tables}
 use Rattle.meaning.specs.Printed.{decimal, rest, line, numbers, lines, node_line, edge_line, site_line, mutation_line, out_row, map_line, listed, refused_line}
-use Rattle.listing.specs.Written.{room}
+use Rattle.listing.specs.Written.{room, Below, Narrow}
 use Rattle.listing.proofs.Digits.{few_digits}
 use Rattle.listing.proofs.Going.{lines_most}
 use Rattle.listing.proofs.Pieces.{out_none, out_some, map_pieces, refused_pieces}
-
--- each cell of a column is below k
-abbrev pub Below : ℕ → List ℕ → Type 0
-Below k l = (i : ℕ) → at l i < k
-
-pub record Narrow (T : Tables) (rows : List ℕ) : Type 0 where
-  pub time : Below 4294967296 T.nodes.time
-  pub birth : Below 4294967296 T.nodes.birth
-  pub population : Below 65536 T.nodes.population
-  pub left : Below 4294967296 T.edges.left
-  pub right : Below 4294967296 T.edges.right
-  pub parent : Below 4294967296 T.edges.parent
-  pub child : Below 4294967296 T.edges.child
-  pub position : Below 4294967296 T.sites.position
-  pub ancestral : Below 256 T.sites.ancestral
-  pub site : Below 4294967296 T.muts.site
-  pub node : Below 4294967296 T.muts.node
-  pub derived : Below 256 T.muts.derived
-  pub row : Below 4294967296 rows
 
 word_digits : (n : ℕ) → n < 4294967296 → length (decimal n) ≤ 10
 word_digits n h = few_digits 9 n (omega arith)
@@ -113,8 +94,8 @@ pub listed_pieces : (L : ℕ) (T : Tables) (rows : List ℕ) → listed L T rows
 unfolding listed
 listed_pieces L T rows = refl
 
-pub listed_most : (L : ℕ) (T : Tables) (rows : List ℕ) → L < 4294967296 → Narrow T rows → length T.nodes.time < 18446744073709551616 → length rows < 18446744073709551616 → length (listed L T rows) ≤ room (length T.nodes.time) (length T.edges.left) (length T.sites.position) (length T.muts.site) (length rows)
-listed_most L T rows h n a b =
+pub listed_most : (L : ℕ) (T : Tables) (rows : List ℕ) → L < 4294967296 → Narrow T → Below 4294967296 rows → length T.nodes.time < 18446744073709551616 → length rows < 18446744073709551616 → length (listed L T rows) ≤ room (length T.nodes.time) (length T.edges.left) (length T.sites.position) (length T.muts.site) (length rows)
+listed_most L T rows h n m a b =
     let N : List ℕ = lines (node_line T.nodes) (length T.nodes.time) in
     let E : List ℕ = lines (edge_line T.edges) (length T.edges.left) in
     let S : List ℕ = lines (site_line T.sites) (length T.sites.position) in
@@ -124,7 +105,7 @@ listed_most L T rows h n a b =
     let he : length E ≤ length T.edges.left * 46 = lines_most (edge_line T.edges) 46 (length T.edges.left) (λ i l. edge_most T.edges i (n.left i) (n.right i) (n.parent i) (n.child i)) in
     let hs : length S ≤ length T.sites.position * 17 = lines_most (site_line T.sites) 17 (length T.sites.position) (λ i l. site_most T.sites i (n.position i) (n.ancestral i)) in
     let hm : length M ≤ length T.muts.site * 28 = lines_most (mutation_line T.muts) 28 (length T.muts.site) (λ i l. mutation_most T.muts i (n.site i) (n.node i) (n.derived i)) in
-    let hx : length X ≤ length rows * 34 = lines_most (map_line rows) 34 (length rows) (λ i l. map_most rows i (omega arith) (n.row i)) in
+    let hx : length X ≤ length rows * 34 = lines_most (map_line rows) 34 (length rows) (λ i l. map_most rows i (omega arith) (m i)) in
     omega (arith, ap length (listed_pieces L T rows), length-append (numbers 81 (L ∷ [])) (from_nodes T rows), length-append N (from_edges T rows), length-append E (from_sites T rows), length-append S (from_mutations T rows), length-append M X, numbers_one 81 L, word_digits L h)
 
 pub refused_most : (n r : ℕ) → n < 4294967296 → r < 18446744073709551616 → length (refused_line n r) ≤ 40

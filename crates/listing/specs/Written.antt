@@ -1,7 +1,8 @@
 -- What a writer promises: which bytes stand where afterwards, and where the next ones go.
-use Rattle.std.specs.Prelude.{◌≡◌, List, ◌∷◌, ◌++◌, ℕ, ◌+◌, ◌*◌, ◌≤◌, length, take, drop}
+use Rattle.std.specs.Prelude.{◌≡◌, List, ◌∷◌, ◌++◌, ℕ, ◌+◌, ◌*◌, ◌<◌, ◌≤◌, length, take, drop}
 use Rattle.std.proofs.Common.{sym, ◌∙◌}
 use Rattle.meaning.specs.Words.{at}
+use Rattle.meaning.specs.Rows.{Tables}
 use Rattle.meaning.specs.Answer.{put}
 use Rattle.meaning.specs.Printed.{decimal}
 
@@ -33,3 +34,22 @@ room nodes edges sites mutations rows = 13 + (nodes * 51 + (edges * 46 + (sites 
 -- number j of a line's, after its space
 abbrev pub spaced : List ℕ → ℕ → List ℕ
 spaced ns j = 32 ∷ decimal (at ns j)
+
+-- each cell of a column is below k
+abbrev pub Below : ℕ → List ℕ → Type 0
+Below k l = (i : ℕ) → at l i < k
+
+-- each cell of the tables fits its column's type
+pub record Narrow (T : Tables) : Type 0 where
+  pub time : Below 4294967296 T.nodes.time
+  pub birth : Below 4294967296 T.nodes.birth
+  pub population : Below 65536 T.nodes.population
+  pub left : Below 4294967296 T.edges.left
+  pub right : Below 4294967296 T.edges.right
+  pub parent : Below 4294967296 T.edges.parent
+  pub child : Below 4294967296 T.edges.child
+  pub position : Below 4294967296 T.sites.position
+  pub ancestral : Below 256 T.sites.ancestral
+  pub site : Below 4294967296 T.muts.site
+  pub node : Below 4294967296 T.muts.node
+  pub derived : Below 256 T.muts.derived

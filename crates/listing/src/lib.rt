@@ -7,44 +7,56 @@ mod rows;
 mod tables;
 
 ghost use Rattle.std.specs.Prelude.{◌≤◌, length};
-ghost use Rattle.meaning.specs.Rows.{node_table, edge_table, site_table, mutation_table, tables};
+ghost use Rattle.meaning.specs.Columns.{lent_in};
 ghost use Rattle.meaning.specs.Printed.{listed, refused_line, too_long};
-ghost use Rattle.listing.specs.Written.{Printed, room};
+ghost use Rattle.listing.specs.Written.{Printed, Below, Narrow, room};
 
+use meaning::columns::Lent;
 use put::Page;
 
-// The listing, whole, at the front of out; the number of its bytes.
-pub fn list(
-    len: u32,
-    time: &[u32],
-    birth: &[u32],
-    population: &[u16],
-    left: &[u32],
-    right: &[u32],
-    parent: &[u32],
-    child: &[u32],
-    position: &[u32],
-    ancestral: &[u8],
-    site: &[u32],
-    node: &[u32],
-    derived: &[u8],
-    map: &[u32],
-    out: &mut [u8],
-) -> usize
-    requires { room (length time.now) (length left.now) (length position.now) (length site.now) (length map.now) ≤ length out.old }
-    ensures { Printed (listed len
-        (tables
-        (node_table time.now birth.now population.now)
-        (edge_table left.now right.now parent.now child.now)
-        (site_table position.now ancestral.now)
-        (mutation_table site.now node.now derived.now)) map.now) out.old out.new result }
+// The cells of a column fit its type: a fact for the room that a listing takes, by a function that does nothing, since of a column in
+// a struct only its list is known.
+fn words(column: &[u32])
+    ensures { Below 4294967296 column.now }
+{}
+
+fn stocks(column: &[u16])
+    ensures { Below 65536 column.now }
+{}
+
+fn states(column: &[u8])
+    ensures { Below 256 column.now }
+{}
+
+fn narrow(lent: Lent)
+    ensures { Narrow (lent_in lent.entry) }
 {
+    words(lent.time);
+    words(lent.birth);
+    stocks(lent.population);
+    words(lent.left);
+    words(lent.right);
+    words(lent.parent);
+    words(lent.child);
+    words(lent.position);
+    states(lent.ancestral);
+    words(lent.site);
+    words(lent.node);
+    states(lent.derived);
+}
+
+// The listing, whole, at the front of out; the number of its bytes.
+pub fn list(len: u32, lent: Lent, map: &[u32], out: &mut [u8]) -> usize
+    requires { room (length lent.time.now) (length lent.left.now) (length lent.position.now) (length lent.site.now) (length map.now) ≤ length out.old }
+    ensures { Printed (listed len (lent_in lent.entry) map.now) out.old out.new result }
+{
+    narrow(lent);
     let mut page = Page { out, len: 0 };
     page.line(b'Q', &[len as usize]);
-    tables::nodes(&mut page, time, birth, population);
-    tables::edges(&mut page, left, right, parent, child);
-    tables::sites(&mut page, position, ancestral);
-    tables::mutations(&mut page, site, node, derived);
+    tables::nodes(&mut page, lent);
+    tables::edges(&mut page, lent);
+    tables::sites(&mut page, lent);
+    tables::mutations(&mut page, lent);
     tables::mapping(&mut page, map);
     page.len
 }

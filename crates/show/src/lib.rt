@@ -4,13 +4,14 @@
 #![tactic(auto)]
 
 ghost use Rattle.std.specs.Prelude.{◌≡◌, ◌≤◌, length, take};
-ghost use Rattle.meaning.specs.Rows.{node_table, edge_table, site_table, mutation_table, tables};
+ghost use Rattle.meaning.specs.Columns.{lent_in};
 ghost use Rattle.meaning.specs.Answer.{refusal_of};
 ghost use Rattle.meaning.specs.Printed.{listed, refused_line};
 ghost use Rattle.listing.specs.Written.{Printed, room};
 ghost use Rattle.meaning.specs.Shown.{Long, front, clean_shown, shown, answered};
 
-use meaning::{Refusal, Told};
+use meaning::columns::Lent;
+use meaning::{Counts, Refusal, Told};
 use stored::Rows;
 
 // The line that a refusal prints.
@@ -22,86 +23,44 @@ fn refused(x: Refusal, out: &mut [u8]) -> usize
     listing::refused_line(t.number, t.row, out)
 }
 
-// The listing of so many rows of each table and of the node map.
-fn list_rows(
-    len: u32,
-    time: &[u32],
-    birth: &[u32],
-    population: &[u16],
-    left: &[u32],
-    right: &[u32],
-    parent: &[u32],
-    child: &[u32],
-    position: &[u32],
-    ancestral: &[u8],
-    site: &[u32],
-    node: &[u32],
-    derived: &[u8],
-    map: &[u32],
-    n: usize,
-    e: usize,
-    s: usize,
-    m: usize,
-    k: usize,
-    out: &mut [u8],
-) -> usize
-    requires { Long (record { nodes = n; edges = e; sites = s; mutations = m })
-        (tables
-        (node_table time.now birth.now population.now)
-        (edge_table left.now right.now parent.now child.now)
-        (site_table position.now ancestral.now)
-        (mutation_table site.now node.now derived.now)) × (k ≤ length map.now) × (room n e s m k ≤ length out.old) }
-    ensures { Printed (listed len (front (record { nodes = n; edges = e; sites = s; mutations = m })
-        (tables
-        (node_table time.now birth.now population.now)
-        (edge_table left.now right.now parent.now child.now)
-        (site_table position.now ancestral.now)
-        (mutation_table site.now node.now derived.now))) (take k map.now)) out.old out.new result }
+// So many rows of each table.
+fn fronts(lent: Lent, rows: Counts) -> Lent
+    requires { Long (record { nodes = rows.nodes; edges = rows.edges; sites = rows.sites; mutations = rows.mutations }) (lent_in lent) }
+    ensures { lent_in result
+        ≡ front (record { nodes = rows.nodes; edges = rows.edges; sites = rows.sites; mutations = rows.mutations }) (lent_in lent.entry) }
 {
-    listing::list(
-        len,
-        &time[..n],
-        &birth[..n],
-        &population[..n],
-        &left[..e],
-        &right[..e],
-        &parent[..e],
-        &child[..e],
-        &position[..s],
-        &ancestral[..s],
-        &site[..m],
-        &node[..m],
-        &derived[..m],
-        &map[..k],
-        out,
-    )
+    Lent {
+        time: &lent.time[..rows.nodes],
+        birth: &lent.birth[..rows.nodes],
+        population: &lent.population[..rows.nodes],
+        left: &lent.left[..rows.edges],
+        right: &lent.right[..rows.edges],
+        parent: &lent.parent[..rows.edges],
+        child: &lent.child[..rows.edges],
+        position: &lent.position[..rows.sites],
+        ancestral: &lent.ancestral[..rows.sites],
+        site: &lent.site[..rows.mutations],
+        node: &lent.node[..rows.mutations],
+        derived: &lent.derived[..rows.mutations],
+    }
+}
+
+// The listing of so many rows of each table and of the node map.
+fn list_rows(len: u32, lent: Lent, map: &[u32], rows: Counts, k: usize, out: &mut [u8]) -> usize
+    requires { Long (record { nodes = rows.nodes; edges = rows.edges; sites = rows.sites; mutations = rows.mutations }) (lent_in lent)
+        × (k ≤ length map.now)
+        × (room rows.nodes rows.edges rows.sites rows.mutations k ≤ length out.old) }
+    ensures { Printed (listed len
+        (front (record { nodes = rows.nodes; edges = rows.edges; sites = rows.sites; mutations = rows.mutations }) (lent_in lent.entry))
+        (take k map.now)) out.old out.new result }
+{
+    listing::list(len, fronts(lent, rows), &map[..k], out)
 }
 
 // Tables cleaned and listed.
-fn clean_and_list(
-    len: u32,
-    time: &[u32],
-    birth: &[u32],
-    population: &[u16],
-    left: &[u32],
-    right: &[u32],
-    parent: &[u32],
-    child: &[u32],
-    position: &[u32],
-    ancestral: &[u8],
-    site: &[u32],
-    node: &[u32],
-    derived: &[u8],
-    samples: &[u32],
-    out: &mut [u8],
-) -> usize
+fn clean_and_list(len: u32, lent: Lent, samples: &[u32], out: &mut [u8]) -> usize
     requires { 313344 ≤ length out.old }
-    ensures { Printed (clean_shown len
-        (tables
-        (node_table time.now birth.now population.now)
-        (edge_table left.now right.now parent.now child.now)
-        (site_table position.now ancestral.now)
-        (mutation_table site.now node.now derived.now)) samples.now) out.old out.new result }
+    ensures { Printed (clean_shown len (lent_in lent.entry) samples.now) out.old out.new result }
 {
     let mut out_time = [0u32; meaning::NodeTable::STORED];
     let mut out_birth = [0u32; meaning::NodeTable::STORED];
@@ -118,18 +77,18 @@ fn clean_and_list(
     let mut out_map = [0u32; meaning::NodeTable::STORED];
     let answer = cleaner::clean(
         len,
-        time,
-        birth,
-        population,
-        left,
-        right,
-        parent,
-        child,
-        position,
-        ancestral,
-        site,
-        node,
-        derived,
+        lent.time,
+        lent.birth,
+        lent.population,
+        lent.left,
+        lent.right,
+        lent.parent,
+        lent.child,
+        lent.position,
+        lent.ancestral,
+        lent.site,
+        lent.node,
+        lent.derived,
         samples,
         &mut out_time,
         &mut out_birth,
@@ -147,86 +106,43 @@ fn clean_and_list(
         writing::within::BLOCK,
     );
     match answer {
-        Ok(rows) => list_rows(
-            len,
-            &out_time,
-            &out_birth,
-            &out_population,
-            &out_left,
-            &out_right,
-            &out_parent,
-            &out_child,
-            &out_position,
-            &out_ancestral,
-            &out_site,
-            &out_node,
-            &out_derived,
-            &out_map,
-            rows.nodes,
-            rows.edges,
-            rows.sites,
-            rows.mutations,
-            birth.len(),
-            out,
-        ),
+        Ok(rows) => {
+            let cells = Lent {
+                time: &out_time,
+                birth: &out_birth,
+                population: &out_population,
+                left: &out_left,
+                right: &out_right,
+                parent: &out_parent,
+                child: &out_child,
+                position: &out_position,
+                ancestral: &out_ancestral,
+                site: &out_site,
+                node: &out_node,
+                derived: &out_derived,
+            };
+            list_rows(len, cells, &out_map, rows, lent.birth.len(), out)
+        }
         Err(x) => refused(x, out),
     }
 }
 
 // So many rows of each table and of the samples, cleaned and listed.
-fn clean_rows(
-    len: u32,
-    time: &[u32],
-    birth: &[u32],
-    population: &[u16],
-    left: &[u32],
-    right: &[u32],
-    parent: &[u32],
-    child: &[u32],
-    position: &[u32],
-    ancestral: &[u8],
-    site: &[u32],
-    node: &[u32],
-    derived: &[u8],
-    samples: &[u32],
-    rows: Rows,
-    out: &mut [u8],
-) -> usize
-    requires { Long (record { nodes = rows.nodes; edges = rows.edges; sites = rows.sites; mutations = rows.mutations })
-        (tables
-        (node_table time.now birth.now population.now)
-        (edge_table left.now right.now parent.now child.now)
-        (site_table position.now ancestral.now)
-        (mutation_table site.now node.now derived.now)) × (rows.samples ≤ length samples.now) × (313344 ≤ length out.old) }
-    ensures { Printed (clean_shown len (front (record { nodes = rows.nodes; edges = rows.edges; sites = rows.sites; mutations = rows.mutations })
-        (tables
-        (node_table time.now birth.now population.now)
-        (edge_table left.now right.now parent.now child.now)
-        (site_table position.now ancestral.now)
-        (mutation_table site.now node.now derived.now))) (take rows.samples samples.now)) out.old out.new result }
+fn clean_rows(len: u32, lent: Lent, samples: &[u32], rows: Rows, out: &mut [u8]) -> usize
+    requires { Long (record { nodes = rows.nodes; edges = rows.edges; sites = rows.sites; mutations = rows.mutations }) (lent_in lent)
+        × (rows.samples ≤ length samples.now)
+        × (313344 ≤ length out.old) }
+    ensures { Printed (clean_shown len
+        (front (record { nodes = rows.nodes; edges = rows.edges; sites = rows.sites; mutations = rows.mutations }) (lent_in lent.entry))
+        (take rows.samples samples.now)) out.old out.new result }
 {
-    let n = rows.nodes;
-    let e = rows.edges;
-    let s = rows.sites;
-    let m = rows.mutations;
-    let k = rows.samples;
-    clean_and_list(
-        len,
-        &time[..n],
-        &birth[..n],
-        &population[..n],
-        &left[..e],
-        &right[..e],
-        &parent[..e],
-        &child[..e],
-        &position[..s],
-        &ancestral[..s],
-        &site[..m],
-        &node[..m],
-        &derived[..m],
-        &samples[..k],
-        out,
-    )
+    let counts = Counts {
+        nodes: rows.nodes,
+        edges: rows.edges,
+        sites: rows.sites,
+        mutations: rows.mutations,
+    };
+    clean_and_list(len, fronts(lent, counts), &samples[..rows.samples], out)
 }
 
 // What a stored file prints, at the front of out; the number of its bytes.
@@ -264,24 +180,23 @@ pub fn show(bytes: &[u8], out: &mut [u8]) -> usize
         &mut samples,
     );
     match answer {
-        Ok(contents) => clean_rows(
-            contents.len,
-            &time,
-            &birth,
-            &population,
-            &left,
-            &right,
-            &parent,
-            &child,
-            &position,
-            &ancestral,
-            &site,
-            &node,
-            &derived,
-            &samples,
-            contents.rows,
-            out,
-        ),
+        Ok(contents) => {
+            let lent = Lent {
+                time: &time,
+                birth: &birth,
+                population: &population,
+                left: &left,
+                right: &right,
+                parent: &parent,
+                child: &child,
+                position: &position,
+                ancestral: &ancestral,
+                site: &site,
+                node: &node,
+                derived: &derived,
+            };
+            clean_rows(contents.len, lent, &samples, contents.rows, out)
+        }
         Err(x) => refused(x, out),
     }
 }

@@ -4,6 +4,7 @@ use mathlib.Core.List.{List}
 use Prim.Native.Nat.{ℕ}
 use lib.ListN.{length}
 use Rattle.meaning.specs.Words.{zeros}
+use Rattle.meaning.specs.Columns.{lent_in}
 use Rattle.meaning.specs.Rows.{Tables}
 use Rattle.meaning.specs.Forest.{stands}
 use Rattle.meaning.specs.Answer.{done, limits, stored_limits}
@@ -19,7 +20,7 @@ use Rattle.show.proofs.clean_and_list.Goals as goal
 pub list_rows-requires : goal.list_rows-requires
 unfolding blank zeros
 list_rows-requires c = let L : ℕ = c.args.len in
-    let T : Tables = record { nodes = record { time = c.args.time.now; birth = c.args.birth.now; population = c.args.population.now }; edges = record { left = c.args.left.now; right = c.args.right.now; parent = c.args.parent.now; child = c.args.child.now }; sites = record { position = c.args.position.now; ancestral = c.args.ancestral.now }; muts = record { site = c.args.site.now; node = c.args.node.now; derived = c.args.derived.now } } in
+    let T : Tables = lent_in c.args.lent in
     let S : List ℕ = c.args.samples.now in
     let cells : Tables = record { nodes = record { time = c.clean-answer.new.out_time; birth = c.clean-answer.new.out_birth; population = c.clean-answer.new.out_population }; edges = record { left = c.clean-answer.new.out_left; right = c.clean-answer.new.out_right; parent = c.clean-answer.new.out_parent; child = c.clean-answer.new.out_child }; sites = record { position = c.clean-answer.new.out_position; ancestral = c.clean-answer.new.out_ancestral }; muts = record { site = c.clean-answer.new.out_site; node = c.clean-answer.new.out_node; derived = c.clean-answer.new.out_derived } } in
     let nodemap : List ℕ = c.clean-answer.new.out_map in
@@ -34,7 +35,7 @@ refused-requires c = omega (arith, c.requires)
 pub returns-in-Ok : goal.returns-in-Ok
 unfolding blank zeros
 returns-in-Ok c = let L : ℕ = c.args.len in
-    let T : Tables = record { nodes = record { time = c.args.time.now; birth = c.args.birth.now; population = c.args.population.now }; edges = record { left = c.args.left.now; right = c.args.right.now; parent = c.args.parent.now; child = c.args.child.now }; sites = record { position = c.args.position.now; ancestral = c.args.ancestral.now }; muts = record { site = c.args.site.now; node = c.args.node.now; derived = c.args.derived.now } } in
+    let T : Tables = lent_in c.args.lent in
     let S : List ℕ = c.args.samples.now in
     let cells : Tables = record { nodes = record { time = c.clean-answer.new.out_time; birth = c.clean-answer.new.out_birth; population = c.clean-answer.new.out_population }; edges = record { left = c.clean-answer.new.out_left; right = c.clean-answer.new.out_right; parent = c.clean-answer.new.out_parent; child = c.clean-answer.new.out_child }; sites = record { position = c.clean-answer.new.out_position; ancestral = c.clean-answer.new.out_ancestral }; muts = record { site = c.clean-answer.new.out_site; node = c.clean-answer.new.out_node; derived = c.clean-answer.new.out_derived } } in
     let nodemap : List ℕ = c.clean-answer.new.out_map in
@@ -44,7 +45,7 @@ returns-in-Ok c = let L : ℕ = c.args.len in
 pub returns-in-Err : goal.returns-in-Err
 unfolding blank zeros
 returns-in-Err c = let L : ℕ = c.args.len in
-    let T : Tables = record { nodes = record { time = c.args.time.now; birth = c.args.birth.now; population = c.args.population.now }; edges = record { left = c.args.left.now; right = c.args.right.now; parent = c.args.parent.now; child = c.args.child.now }; sites = record { position = c.args.position.now; ancestral = c.args.ancestral.now }; muts = record { site = c.args.site.now; node = c.args.node.now; derived = c.args.derived.now } } in
+    let T : Tables = lent_in c.args.lent in
     let S : List ℕ = c.args.samples.now in
     let cells : Tables = record { nodes = record { time = c.clean-answer.new.out_time; birth = c.clean-answer.new.out_birth; population = c.clean-answer.new.out_population }; edges = record { left = c.clean-answer.new.out_left; right = c.clean-answer.new.out_right; parent = c.clean-answer.new.out_parent; child = c.clean-answer.new.out_child }; sites = record { position = c.clean-answer.new.out_position; ancestral = c.clean-answer.new.out_ancestral }; muts = record { site = c.clean-answer.new.out_site; node = c.clean-answer.new.out_node; derived = c.clean-answer.new.out_derived } } in
     let nodemap : List ℕ = c.clean-answer.new.out_map in

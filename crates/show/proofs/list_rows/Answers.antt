@@ -1,52 +1,29 @@
 -- `show::list_rows` meets its contract: the listing of the columns' fronts. Assumes nothing.
 use lib.Seq.{length-take-le}
-use mathlib.Core.Path.{sym}
+use mathlib.Core.Path.{ap}
+use lib.ListN.{length, take}
+use Rattle.meaning.specs.Rows.{Tables}
+use Rattle.meaning.specs.Printed.{listed}
 use Rattle.meaning.specs.Shown.{front}
+use Rattle.show.proofs.Printing.{printed_as}
 use native.Mathlib.Omega.{arith}
 use Rattle.show.proofs.list_rows.Goals as goal
 
-pub slice_bounds-list-end : goal.slice_bounds-list-end
-slice_bounds-list-end c = sym (length-take-le c.args.n c.args.time.now c.requires.0.time)
-
-pub slice_bounds-list-end-2 : goal.slice_bounds-list-end-2
-slice_bounds-list-end-2 c = sym (length-take-le c.args.n c.args.birth.now c.requires.0.birth)
-
-pub slice_bounds-list-end-3 : goal.slice_bounds-list-end-3
-slice_bounds-list-end-3 c = sym (length-take-le c.args.n c.args.population.now c.requires.0.population)
-
-pub slice_bounds-list-end-4 : goal.slice_bounds-list-end-4
-slice_bounds-list-end-4 c = sym (length-take-le c.args.e c.args.left.now c.requires.0.left)
-
-pub slice_bounds-list-end-5 : goal.slice_bounds-list-end-5
-slice_bounds-list-end-5 c = sym (length-take-le c.args.e c.args.right.now c.requires.0.right)
-
-pub slice_bounds-list-end-6 : goal.slice_bounds-list-end-6
-slice_bounds-list-end-6 c = sym (length-take-le c.args.e c.args.parent.now c.requires.0.parent)
-
-pub slice_bounds-list-end-7 : goal.slice_bounds-list-end-7
-slice_bounds-list-end-7 c = sym (length-take-le c.args.e c.args.child.now c.requires.0.child)
-
-pub slice_bounds-list-end-8 : goal.slice_bounds-list-end-8
-slice_bounds-list-end-8 c = sym (length-take-le c.args.s c.args.position.now c.requires.0.position)
-
-pub slice_bounds-list-end-9 : goal.slice_bounds-list-end-9
-slice_bounds-list-end-9 c = sym (length-take-le c.args.s c.args.ancestral.now c.requires.0.ancestral)
-
-pub slice_bounds-list-end-10 : goal.slice_bounds-list-end-10
-slice_bounds-list-end-10 c = sym (length-take-le c.args.m c.args.site.now c.requires.0.site)
-
-pub slice_bounds-list-end-11 : goal.slice_bounds-list-end-11
-slice_bounds-list-end-11 c = sym (length-take-le c.args.m c.args.node.now c.requires.0.node)
-
-pub slice_bounds-list-end-12 : goal.slice_bounds-list-end-12
-slice_bounds-list-end-12 c = sym (length-take-le c.args.m c.args.derived.now c.requires.0.derived)
-
-pub slice_bounds-list-end-13 : goal.slice_bounds-list-end-13
-slice_bounds-list-end-13 c = sym (length-take-le c.args.k c.args.map.now c.requires.1)
-
 pub list-requires : goal.list-requires
-list-requires c = omega (arith, length-take-le c.args.n c.args.time.now c.requires.0.time, length-take-le c.args.e c.args.left.now c.requires.0.left, length-take-le c.args.s c.args.position.now c.requires.0.position, length-take-le c.args.m c.args.site.now c.requires.0.site, length-take-le c.args.k c.args.map.now c.requires.1, c.requires.2)
+unfolding front
+list-requires c = omega (
+  arith,
+  ap (λ (T : Tables). length T.nodes.time) c.fronts.ensures,
+  ap (λ (T : Tables). length T.edges.left) c.fronts.ensures,
+  ap (λ (T : Tables). length T.sites.position) c.fronts.ensures,
+  ap (λ (T : Tables). length T.muts.site) c.fronts.ensures,
+  length-take-le c.args.rows.nodes c.args.lent.time.now c.requires.0.time,
+  length-take-le c.args.rows.edges c.args.lent.left.now c.requires.0.left,
+  length-take-le c.args.rows.sites c.args.lent.position.now c.requires.0.position,
+  length-take-le c.args.rows.mutations c.args.lent.site.now c.requires.0.site,
+  length-take-le c.args.k c.args.map.now c.requires.1,
+  c.requires.2,
+)
 
 pub returns : goal.returns
-unfolding front
-returns c = c.list.ensures
+returns c = printed_as (ap (λ (T : Tables). listed c.args.len T (take c.args.k c.args.map.now)) c.fronts.ensures) c.list.ensures

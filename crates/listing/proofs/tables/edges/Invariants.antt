@@ -1,12 +1,13 @@
 -- `listing::tables::edges` meets its contract: the loop has written the rows that it has passed. Assumes nothing.
 use mathlib.Core.Path.{◌≡◌}
 use lib.ListN.{length}
+use Rattle.meaning.specs.Columns.{lent_in}
 use Rattle.meaning.specs.Printed.{edge_line}
 use Rattle.listing.proofs.Going.{Going}
 use Rattle.listing.proofs.tables.edges.Given as goal
 
 abbrev pub invariant-loop-i : goal.invariant-loop-i
 invariant-loop-i l = record {
-  going : Going (edge_line (record { left = l.left; right = l.right; parent = l.parent; child = l.child })) (length l.left) l.initial.page.len l.initial.page.out.now l.page.out.now l.page.len l.i;
+  going : Going (edge_line (lent_in l.lent).edges) (length l.lent.left.now) l.initial.page.len l.initial.page.out.now l.page.out.now l.page.len l.i;
   same : l.page.out.ghost_name ≡ l.initial.page.out.ghost_name;
 }

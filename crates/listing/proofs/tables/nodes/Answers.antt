@@ -1,18 +1,19 @@
 -- `listing::tables::nodes` meets its contract: the loop has written the rows that it has passed. Assumes nothing.
 use mathlib.Core.Path.{refl, ◌∙◌}
 use lib.ListN.{length}
+use Rattle.meaning.specs.Columns.{lent_in}
 use Rattle.meaning.specs.Printed.{node_line}
 use Rattle.listing.proofs.Going.{going_start, going_room, going_more, going_end}
 use Rattle.listing.proofs.tables.nodes.Goals as goal
 
 pub loop-i-init : goal.loop-i-init
-loop-i-init c = record { going = going_start (node_line (record { time = c.args.time.now; birth = c.args.birth.now; population = c.args.population.now })) (length c.args.time.now) c.args.page.now.len c.args.page.now.out.now c.requires; same = refl }
+loop-i-init c = record { going = going_start (node_line (lent_in c.args.lent).nodes) (length c.args.lent.time.now) c.args.page.now.len c.args.page.now.out.now c.requires; same = refl }
 
 pub node-requires : goal.node-requires
-node-requires c = going_room (node_line (record { time = c.args.time.now; birth = c.args.birth.now; population = c.args.population.now })) (length c.args.time.now) c.args.page.now.len c.args.page.now.out.now c.requires c.loop-i.invariant.going c.loop-i-test.true
+node-requires c = going_room (node_line (lent_in c.args.lent).nodes) (length c.args.lent.time.now) c.args.page.now.len c.args.page.now.out.now c.requires c.loop-i.invariant.going c.loop-i-test.true
 
 pub loop-i-preserved : goal.loop-i-preserved
-loop-i-preserved c = record { going = going_more (node_line (record { time = c.args.time.now; birth = c.args.birth.now; population = c.args.population.now })) (length c.args.time.now) c.args.page.now.len c.args.page.now.out.now c.requires c.loop-i.invariant.going c.loop-i-test.true c.node.ensures.wrote; same = c.node.ensures.same ∙ c.loop-i.invariant.same }
+loop-i-preserved c = record { going = going_more (node_line (lent_in c.args.lent).nodes) (length c.args.lent.time.now) c.args.page.now.len c.args.page.now.out.now c.requires c.loop-i.invariant.going c.loop-i-test.true c.node.ensures.wrote; same = c.node.ensures.same ∙ c.loop-i.invariant.same }
 
 pub returns-clause-wrote : goal.returns-clause-wrote
-returns-clause-wrote c = going_end (node_line (record { time = c.args.time.now; birth = c.args.birth.now; population = c.args.population.now })) (length c.args.time.now) c.args.page.now.len c.args.page.now.out.now c.requires c.loop-i.invariant.going c.loop-i-test.false
+returns-clause-wrote c = going_end (node_line (lent_in c.args.lent).nodes) (length c.args.lent.time.now) c.args.page.now.len c.args.page.now.out.now c.requires c.loop-i.invariant.going c.loop-i-test.false
