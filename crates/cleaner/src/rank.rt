@@ -45,7 +45,7 @@ pub fn both_orders(len: u32, edges: EdgeColumns, bl: &mut [u32], br: &mut [u32])
         (rows (λ i. i) (length edges.entry.right.now)) br.new }
 {
     ranked_down(edges.left, bl, br);
-    keys::ends::by_right(len, edges.left, edges.right, edges.child, bl, br);
+    keys::ends::by_right(len, edges, bl, br);
 }
 
 // The other rows kept behind the ns samples' rows, and every row's place; how many rows are kept.

@@ -4,9 +4,12 @@ ghost use Rattle.meaning.specs.Answer.{stored_limits};
 ghost use Rattle.meaning.specs.Stored.{SA, ND, ED, Si, MU, bytes_of, record_at, records_from};
 ghost use Rattle.form.specs.Posts.{lay};
 
+use meaning::columns::{Ages, EdgeColumns, MutationColumns, SiteColumns};
+
+// A number in one byte, which is the byte of its form.
 pub fn put8(at: usize, v: u8, out: &mut [u8])
     requires { at + 1 ≤ length out.old }
-    ensures { out.new ≡ lay at (v ∷ []) out.old }
+    ensures { (out.new ≡ lay at (v ∷ []) out.old) × (bytes_of 1 v ≡ v ∷ []) }
 {
     out[at] = v;
 }
@@ -67,114 +70,107 @@ pub fn samples(birth: &[u32], start: usize, out: &mut [u8]) -> usize
     at
 }
 
-// One node's record.
-fn node_row(at: usize, time: u32, birth: u32, out: &mut [u8])
-    requires { at + 10 ≤ length out.old }
-    ensures { out.new ≡ lay at (record_at (ND stored_limits) ((time ∷ []) ∷ (birth ∷ []) ∷ []) 0) out.old }
+// The record of node i.
+fn node_row(at: usize, ages: Ages, i: usize, out: &mut [u8])
+    requires { (at + 10 ≤ length out.old) × (i < length ages.time.now) }
+    ensures { out.new ≡ lay at (record_at (ND stored_limits) (ages.entry.time.now ∷ ages.entry.birth.now ∷ []) i) out.old }
 {
     let p = at + 2;
     let q = p + 4;
     mark(at, *b"ND", out);
-    put32(p, time, out);
-    put32(q, birth, out);
+    put32(p, ages.time[i], out);
+    put32(q, ages.birth[i], out);
 }
 
 // The records of all nodes; the offset after them.
-pub fn nodes(time: &[u32], birth: &[u32], start: usize, out: &mut [u8]) -> usize
-    requires { (start + length time.now * 10 ≤ length out.old) × (length birth.now ≡ length time.now) }
-    ensures { (result ≡ start + length time.now * 10) × (out.new ≡ lay start (records_from (ND stored_limits) (time.now ∷ birth.now ∷ []) 0 (length time.now)) out.old) }
+pub fn nodes(ages: Ages, start: usize, out: &mut [u8]) -> usize
+    requires { start + length ages.time.now * 10 ≤ length out.old }
+    ensures { (result ≡ start + length ages.entry.time.now * 10) × (out.new ≡ lay start (records_from (ND stored_limits) (ages.entry.time.now ∷ ages.entry.birth.now ∷ []) 0 (length ages.entry.time.now)) out.old) }
 {
     let mut at = start;
-    for i in 0..time.len() {
-        node_row(at, time[i], birth[i], out);
+    for i in 0..ages.time.len() {
+        node_row(at, ages, i, out);
         at += 10;
     }
     at
 }
 
-// One edge's record.
-fn edge_row(at: usize, left: u32, right: u32, parent: u32, child: u32, out: &mut [u8])
-    requires { at + 14 ≤ length out.old }
-    ensures { out.new ≡ lay at (record_at (ED 2 stored_limits) ((left ∷ []) ∷ (right ∷ []) ∷ (parent ∷ []) ∷ (child ∷ []) ∷ []) 0) out.old }
+// The record of edge i.
+fn edge_row(at: usize, edges: EdgeColumns, i: usize, out: &mut [u8])
+    requires { (at + 14 ≤ length out.old) × (i < length edges.left.now) }
+    ensures { out.new ≡ lay at (record_at (ED 2 stored_limits) (edges.entry.left.now ∷ edges.entry.right.now ∷ edges.entry.parent.now ∷ edges.entry.child.now ∷ []) i) out.old }
 {
     let p = at + 2;
     let q = p + 4;
     let r = q + 4;
     let s = r + 2;
     mark(at, *b"ED", out);
-    put32(p, left, out);
-    put32(q, right, out);
-    put16(r, parent, out);
-    put16(s, child, out);
+    put32(p, edges.left[i], out);
+    put32(q, edges.right[i], out);
+    put16(r, edges.parent[i], out);
+    put16(s, edges.child[i], out);
 }
 
 // The records of all edges; the offset after them.
-pub fn edges(
-    left: &[u32],
-    right: &[u32],
-    parent: &[u32],
-    child: &[u32],
-    start: usize,
-    out: &mut [u8],
-) -> usize
-    requires { (start + length left.now * 14 ≤ length out.old) × (length right.now ≡ length left.now) × (length parent.now ≡ length left.now) × (length child.now ≡ length left.now) }
-    ensures { (result ≡ start + length left.now * 14) × (out.new ≡ lay start (records_from (ED 2 stored_limits) (left.now ∷ right.now ∷ parent.now ∷ child.now ∷ []) 0 (length left.now)) out.old) }
+pub fn edges(edges: EdgeColumns, start: usize, out: &mut [u8]) -> usize
+    requires { start + length edges.left.now * 14 ≤ length out.old }
+    ensures { (result ≡ start + length edges.entry.left.now * 14) × (out.new ≡ lay start (records_from (ED 2 stored_limits) (edges.entry.left.now ∷ edges.entry.right.now ∷ edges.entry.parent.now ∷ edges.entry.child.now ∷ []) 0 (length edges.entry.left.now)) out.old) }
 {
     let mut at = start;
-    for i in 0..left.len() {
-        edge_row(at, left[i], right[i], parent[i], child[i], out);
+    for i in 0..edges.left.len() {
+        edge_row(at, edges, i, out);
         at += 14;
     }
     at
 }
 
-// One site's record.
-fn site_row(at: usize, position: u32, ancestral: u8, out: &mut [u8])
-    requires { at + 7 ≤ length out.old }
-    ensures { out.new ≡ lay at (record_at (Si stored_limits) ((position ∷ []) ∷ (ancestral ∷ []) ∷ []) 0) out.old }
+// The record of site i.
+fn site_row(at: usize, sites: SiteColumns, i: usize, out: &mut [u8])
+    requires { (at + 7 ≤ length out.old) × (i < length sites.position.now) }
+    ensures { out.new ≡ lay at (record_at (Si stored_limits) (sites.entry.position.now ∷ sites.entry.ancestral.now ∷ []) i) out.old }
 {
     let p = at + 2;
     let q = p + 4;
     mark(at, *b"SI", out);
-    put32(p, position, out);
-    put8(q, ancestral, out);
+    put32(p, sites.position[i], out);
+    put8(q, sites.ancestral[i], out);
 }
 
 // The records of all sites; the offset after them.
-pub fn sites(position: &[u32], ancestral: &[u8], start: usize, out: &mut [u8]) -> usize
-    requires { (start + length position.now * 7 ≤ length out.old) × (length ancestral.now ≡ length position.now) }
-    ensures { (result ≡ start + length position.now * 7) × (out.new ≡ lay start (records_from (Si stored_limits) (position.now ∷ ancestral.now ∷ []) 0 (length position.now)) out.old) }
+pub fn sites(sites: SiteColumns, start: usize, out: &mut [u8]) -> usize
+    requires { start + length sites.position.now * 7 ≤ length out.old }
+    ensures { (result ≡ start + length sites.entry.position.now * 7) × (out.new ≡ lay start (records_from (Si stored_limits) (sites.entry.position.now ∷ sites.entry.ancestral.now ∷ []) 0 (length sites.entry.position.now)) out.old) }
 {
     let mut at = start;
-    for i in 0..position.len() {
-        site_row(at, position[i], ancestral[i], out);
+    for i in 0..sites.position.len() {
+        site_row(at, sites, i, out);
         at += 7;
     }
     at
 }
 
-// One mutation's record.
-fn mutation_row(at: usize, site: u32, node: u32, derived: u8, out: &mut [u8])
-    requires { at + 7 ≤ length out.old }
-    ensures { out.new ≡ lay at (record_at (MU 2 stored_limits) ((site ∷ []) ∷ (node ∷ []) ∷ (derived ∷ []) ∷ []) 0) out.old }
+// The record of mutation i.
+fn mutation_row(at: usize, mutations: MutationColumns, i: usize, out: &mut [u8])
+    requires { (at + 7 ≤ length out.old) × (i < length mutations.site.now) }
+    ensures { out.new ≡ lay at (record_at (MU 2 stored_limits) (mutations.entry.site.now ∷ mutations.entry.node.now ∷ mutations.entry.derived.now ∷ []) i) out.old }
 {
     let p = at + 2;
     let q = p + 2;
     let r = q + 2;
     mark(at, *b"MU", out);
-    put16(p, site, out);
-    put16(q, node, out);
-    put8(r, derived, out);
+    put16(p, mutations.site[i], out);
+    put16(q, mutations.node[i], out);
+    put8(r, mutations.derived[i], out);
 }
 
 // The records of all mutations; the offset after them.
-pub fn mutations(site: &[u32], node: &[u32], derived: &[u8], start: usize, out: &mut [u8]) -> usize
-    requires { (start + length site.now * 7 ≤ length out.old) × (length node.now ≡ length site.now) × (length derived.now ≡ length site.now) }
-    ensures { (result ≡ start + length site.now * 7) × (out.new ≡ lay start (records_from (MU 2 stored_limits) (site.now ∷ node.now ∷ derived.now ∷ []) 0 (length site.now)) out.old) }
+pub fn mutations(mutations: MutationColumns, start: usize, out: &mut [u8]) -> usize
+    requires { start + length mutations.site.now * 7 ≤ length out.old }
+    ensures { (result ≡ start + length mutations.entry.site.now * 7) × (out.new ≡ lay start (records_from (MU 2 stored_limits) (mutations.entry.site.now ∷ mutations.entry.node.now ∷ mutations.entry.derived.now ∷ []) 0 (length mutations.entry.site.now)) out.old) }
 {
     let mut at = start;
-    for i in 0..site.len() {
-        mutation_row(at, site[i], node[i], derived[i], out);
+    for i in 0..mutations.site.len() {
+        mutation_row(at, mutations, i, out);
         at += 7;
     }
     at

@@ -8,6 +8,7 @@ use borrow.Author.Tests.{lt-ltb, le-ltb}
 use lib.ListN.{length, length-append}
 use Rattle.meaning.specs.Words.{lowest}
 use Rattle.meaning.specs.Rows.{Tables}
+use Rattle.meaning.specs.Even.{EvenEdges, EvenSites, EvenMutations}
 use Rattle.meaning.specs.Answer.{Answer, answer, done, stored_limits, refuse_row, refusal_of, put, left_by}
 use Rattle.meaning.specs.declared.Refusal.{Refusal}
 use Rattle.meaning.specs.declared.Refusal.TheVariants.{Ragged, TooMany, NoRoom, EdgeWide, MutationWide, Populated}
@@ -196,19 +197,19 @@ module _ (T : Tables) (s : Shaped T) where
       let a : _ = even_head (shape_even T.nodes.time (T.nodes.birth ∷ T.nodes.population ∷ []) s.nodes) in
       (a.0, (even_head a.1).0)
 
-  pub edges_same : (length T.edges.right ≡ length T.edges.left) × (length T.edges.parent ≡ length T.edges.left) × (length T.edges.child ≡ length T.edges.left)
+  pub edges_same : EvenEdges T.edges
   edges_same =
       let a : _ = even_head (shape_even T.edges.left (T.edges.right ∷ T.edges.parent ∷ T.edges.child ∷ []) s.edges) in
       let b : _ = even_head a.1 in
-      (a.0, b.0, (even_head b.1).0)
+      record { right_long = a.0; parent_long = b.0; child_long = (even_head b.1).0 }
 
-  pub sites_same : length T.sites.ancestral ≡ length T.sites.position
-  sites_same = (even_head (shape_even T.sites.position (T.sites.ancestral ∷ []) s.sites)).0
+  pub sites_same : EvenSites T.sites
+  sites_same = record { ancestral_long = (even_head (shape_even T.sites.position (T.sites.ancestral ∷ []) s.sites)).0 }
 
-  pub muts_same : (length T.muts.node ≡ length T.muts.site) × (length T.muts.derived ≡ length T.muts.site)
+  pub muts_same : EvenMutations T.muts
   muts_same =
       let a : _ = even_head (shape_even T.muts.site (T.muts.node ∷ T.muts.derived ∷ []) s.muts) in
-      (a.0, (even_head a.1).0)
+      record { node_long = a.0; derived_long = (even_head a.1).0 }
 
 -- ---- as the code has it
 
@@ -249,11 +250,11 @@ module _ (L : ℕ) (t : Lent) (S out : List ℕ) {u : Option ℕ} (f : Uneven (l
           pub lent_edge : (k : ℕ) → a ≡ Some k → written_of (Err (EdgeWide k)) out ≡ writing 2 stored_limits L (lent_in t) S out
           lent_edge k e =
               let w : _ = lowest_row-some (too_wide 2 t.parent.now t.child.now) (length t.parent.now) k (sym e ∙ p) in
-              write_edge L (lent_in t) S out lent_shaped lent_within (length t.parent.now) k (edges_same (lent_in t) lent_shaped).1 w.2 w.0
+              write_edge L (lent_in t) S out lent_shaped lent_within (length t.parent.now) k (edges_same (lent_in t) lent_shaped).parent_long w.2 w.0
 
           module _ (z : a ≡ None) where
             pub edges_pass : (i : ℕ) → i < length t.left.now → too_wide 2 t.parent.now t.child.now i ≡ false
-            edges_pass = edges_narrow L (lent_in t) S out lent_shaped lent_within (length t.parent.now) (length t.parent.now) (edges_same (lent_in t) lent_shaped).1 (sym (lowest_row-none (too_wide 2 t.parent.now t.child.now) (length t.parent.now) (sym z ∙ p))) (omega arith)
+            edges_pass = edges_narrow L (lent_in t) S out lent_shaped lent_within (length t.parent.now) (length t.parent.now) (edges_same (lent_in t) lent_shaped).parent_long (sym (lowest_row-none (too_wide 2 t.parent.now t.child.now) (length t.parent.now) (sym z ∙ p))) (omega arith)
 
             module _ {b : Option ℕ} (r : b ≡ lowest_row (too_wide 2 t.site.now t.node.now) (length t.site.now)) where
               pub lent_mutation : (k : ℕ) → b ≡ Some k → written_of (Err (MutationWide k)) out ≡ writing 2 stored_limits L (lent_in t) S out

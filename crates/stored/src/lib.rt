@@ -12,7 +12,7 @@ ghost use Rattle.stored.specs.Answers.{read_of, written_of};
 mod measure; // measure.rt: whether what was found fits what is lent
 
 use meaning::Refusal;
-use meaning::columns::Lent;
+use meaning::columns::{Ages, EdgeColumns, Lent, MutationColumns, SiteColumns};
 
 // The rows of each table: as many as are found, as many as there is room for, or as many as were read.
 #[derive(Clone, Copy, Debug, PartialEq, Eq)]
@@ -150,6 +150,25 @@ pub fn write(len: u32, tables: Lent, samples: &[u32], bytes: &mut [u8]) -> Resul
     if let Some(table) = measure::uneven(lengths) {
         return Err(Refusal::Ragged(table));
     }
+    let ages = Ages {
+        time: t.time,
+        birth: t.birth,
+    };
+    let edges = EdgeColumns {
+        left: t.left,
+        right: t.right,
+        parent: t.parent,
+        child: t.child,
+    };
+    let sites = SiteColumns {
+        position: t.position,
+        ancestral: t.ancestral,
+    };
+    let mutations = MutationColumns {
+        site: t.site,
+        node: t.node,
+        derived: t.derived,
+    };
     let rows = Rows {
         nodes: t.time.len(),
         edges: t.left.len(),
@@ -175,10 +194,10 @@ pub fn write(len: u32, tables: Lent, samples: &[u32], bytes: &mut [u8]) -> Resul
     }
     form::lay::head(len, bytes);
     let a = form::lay::samples(samples, 6, bytes);
-    let b = form::lay::nodes(t.time, t.birth, a, bytes);
-    let c = form::lay::edges(t.left, t.right, t.parent, t.child, b, bytes);
-    let d = form::lay::sites(t.position, t.ancestral, c, bytes);
-    let e = form::lay::mutations(t.site, t.node, t.derived, d, bytes);
+    let b = form::lay::nodes(ages, a, bytes);
+    let c = form::lay::edges(edges, b, bytes);
+    let d = form::lay::sites(sites, c, bytes);
+    let e = form::lay::mutations(mutations, d, bytes);
     form::lay::mark(e, *b"EN", bytes);
     Ok(count)
 }

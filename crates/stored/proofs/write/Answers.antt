@@ -8,17 +8,29 @@ use Rattle.stored.proofs.write.Goals as goal
 pub returns-in-Some : goal.returns-in-Some
 returns-in-Some c = lent_ragged c.args.len c.args.tables c.args.samples.now c.args.bytes.now c.uneven.ensures c.in-Some.table c.in-Some.is
 
+pub invariant_of-ages : goal.invariant_of-ages
+invariant_of-ages c = record { even = record { birth_long = (nodes_same (lent_in c.args.tables) (lent_shaped c.args.len c.args.tables c.args.samples.now c.args.bytes.now c.uneven.ensures c.in_default.is)).0 } }
+
+pub invariant_of-edges : goal.invariant_of-edges
+invariant_of-edges c = record { even = edges_same (lent_in c.args.tables) (lent_shaped c.args.len c.args.tables c.args.samples.now c.args.bytes.now c.uneven.ensures c.in_default.is) }
+
+pub invariant_of-sites : goal.invariant_of-sites
+invariant_of-sites c = record { even = sites_same (lent_in c.args.tables) (lent_shaped c.args.len c.args.tables c.args.samples.now c.args.bytes.now c.uneven.ensures c.in_default.is) }
+
+pub invariant_of-mutations : goal.invariant_of-mutations
+invariant_of-mutations c = record { even = muts_same (lent_in c.args.tables) (lent_shaped c.args.len c.args.tables c.args.samples.now c.args.bytes.now c.uneven.ensures c.in_default.is) }
+
 pub returns-in-Some-lacking : goal.returns-in-Some-lacking
 returns-in-Some-lacking c = lent_over c.args.len c.args.tables c.args.samples.now c.args.bytes.now c.uneven.ensures c.in_default.is c.most.ensures c.lacking.ensures c.in-Some-lacking.table c.in-Some-lacking.is
 
 pub first_wide-requires : goal.first_wide-requires
-first_wide-requires c = let e = edges_same (lent_in c.args.tables) (lent_shaped c.args.len c.args.tables c.args.samples.now c.args.bytes.now c.uneven.ensures c.in_default.is) in e.2 ∙ sym e.1
+first_wide-requires c = let e = edges_same (lent_in c.args.tables) (lent_shaped c.args.len c.args.tables c.args.samples.now c.args.bytes.now c.uneven.ensures c.in_default.is) in e.child_long ∙ sym e.parent_long
 
 pub returns-in-Some-first_wide : goal.returns-in-Some-first_wide
 returns-in-Some-first_wide c = lent_edge c.args.len c.args.tables c.args.samples.now c.args.bytes.now c.uneven.ensures c.in_default.is c.most.ensures c.lacking.ensures c.in_default-lacking.is c.first_wide.ensures c.in-Some-first_wide.edge c.in-Some-first_wide.is
 
 pub first_wide-requires-2 : goal.first_wide-requires-2
-first_wide-requires-2 c = (muts_same (lent_in c.args.tables) (lent_shaped c.args.len c.args.tables c.args.samples.now c.args.bytes.now c.uneven.ensures c.in_default.is)).0
+first_wide-requires-2 c = (muts_same (lent_in c.args.tables) (lent_shaped c.args.len c.args.tables c.args.samples.now c.args.bytes.now c.uneven.ensures c.in_default.is)).node_long
 
 pub returns-in-Some-first_wide-2 : goal.returns-in-Some-first_wide-2
 returns-in-Some-first_wide-2 c = lent_mutation c.args.len c.args.tables c.args.samples.now c.args.bytes.now c.uneven.ensures c.in_default.is c.most.ensures c.lacking.ensures c.in_default-lacking.is c.first_wide.ensures c.in_default-first_wide.is c.first_wide-2.ensures c.in-Some-first_wide-2.mutation c.in-Some-first_wide-2.is
@@ -39,18 +51,16 @@ pub samples-a-requires : goal.samples-a-requires
 samples-a-requires c = omega (arith, c.file_bytes-count.ensures, c.if-bytes-count.false, c.head.auto.out)
 
 pub nodes-b-requires : goal.nodes-b-requires
-nodes-b-requires c = (omega (arith, c.file_bytes-count.ensures, c.if-bytes-count.false, c.head.auto.out, c.samples-a.auto.out, c.samples-a.ensures.0), (nodes_same (lent_in c.args.tables) (lent_shaped c.args.len c.args.tables c.args.samples.now c.args.bytes.now c.uneven.ensures c.in_default.is)).0)
+nodes-b-requires c = omega (arith, c.file_bytes-count.ensures, c.if-bytes-count.false, c.head.auto.out, c.samples-a.auto.out, c.samples-a.ensures.0)
 
 pub edges-c-requires : goal.edges-c-requires
-edges-c-requires c = let e = edges_same (lent_in c.args.tables) (lent_shaped c.args.len c.args.tables c.args.samples.now c.args.bytes.now c.uneven.ensures c.in_default.is) in
-    (omega (arith, c.file_bytes-count.ensures, c.if-bytes-count.false, c.head.auto.out, c.samples-a.auto.out, c.nodes-b.auto.out, c.samples-a.ensures.0, c.nodes-b.ensures.0), e.0, e.1, e.2)
+edges-c-requires c = omega (arith, c.file_bytes-count.ensures, c.if-bytes-count.false, c.head.auto.out, c.samples-a.auto.out, c.nodes-b.auto.out, c.samples-a.ensures.0, c.nodes-b.ensures.0)
 
 pub sites-d-requires : goal.sites-d-requires
-sites-d-requires c = (omega (arith, c.file_bytes-count.ensures, c.if-bytes-count.false, c.head.auto.out, c.samples-a.auto.out, c.nodes-b.auto.out, c.edges-c.auto.out, c.samples-a.ensures.0, c.nodes-b.ensures.0, c.edges-c.ensures.0), sites_same (lent_in c.args.tables) (lent_shaped c.args.len c.args.tables c.args.samples.now c.args.bytes.now c.uneven.ensures c.in_default.is))
+sites-d-requires c = omega (arith, c.file_bytes-count.ensures, c.if-bytes-count.false, c.head.auto.out, c.samples-a.auto.out, c.nodes-b.auto.out, c.edges-c.auto.out, c.samples-a.ensures.0, c.nodes-b.ensures.0, c.edges-c.ensures.0)
 
 pub mutations-e-requires : goal.mutations-e-requires
-mutations-e-requires c = let e = muts_same (lent_in c.args.tables) (lent_shaped c.args.len c.args.tables c.args.samples.now c.args.bytes.now c.uneven.ensures c.in_default.is) in
-    (omega (arith, c.file_bytes-count.ensures, c.if-bytes-count.false, c.head.auto.out, c.samples-a.auto.out, c.nodes-b.auto.out, c.edges-c.auto.out, c.sites-d.auto.out, c.samples-a.ensures.0, c.nodes-b.ensures.0, c.edges-c.ensures.0, c.sites-d.ensures.0), e.0, e.1)
+mutations-e-requires c = omega (arith, c.file_bytes-count.ensures, c.if-bytes-count.false, c.head.auto.out, c.samples-a.auto.out, c.nodes-b.auto.out, c.edges-c.auto.out, c.sites-d.auto.out, c.samples-a.ensures.0, c.nodes-b.ensures.0, c.edges-c.ensures.0, c.sites-d.ensures.0)
 
 pub mark-requires : goal.mark-requires
 mark-requires c = omega (arith, c.file_bytes-count.ensures, c.if-bytes-count.false, c.head.auto.out, c.samples-a.auto.out, c.nodes-b.auto.out, c.edges-c.auto.out, c.sites-d.auto.out, c.mutations-e.auto.out, c.samples-a.ensures.0, c.nodes-b.ensures.0, c.edges-c.ensures.0, c.sites-d.ensures.0, c.mutations-e.ensures.0)

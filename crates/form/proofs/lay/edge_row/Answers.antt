@@ -1,6 +1,7 @@
 -- `form::lay::edge_row` meets its contract: the mark and the fields, one after the other. Assumes nothing.
 use mathlib.Core.List.{[], ◌∷◌, ◌++◌}
 use Prim.Native.Nat.{◌+◌}
+use Rattle.meaning.specs.Words.{at}
 use Rattle.meaning.specs.Stored.{bytes_of, record_at, fields_at}
 use Rattle.form.proofs.Laying.{lay_chain}
 use native.Mathlib.Omega.{arith}
@@ -9,8 +10,8 @@ use Rattle.form.proofs.lay.edge_row.Goals as goal
 pub returns : goal.returns
 unfolding bytes_of record_at fields_at
 returns c = let e0 : _ = c.mark.ensures in
-    let e1 : _ = lay_chain c.args.at (c.args.at + 2) (69 ∷ 68 ∷ []) (bytes_of 4 c.args.left) c.args.out.now e0 c.put32.ensures (omega arith) (omega (arith, c.requires)) in
-    let e2 : _ = lay_chain c.args.at (c.args.at + 2 + 4) ((69 ∷ 68 ∷ []) ++ bytes_of 4 c.args.left) (bytes_of 4 c.args.right) c.args.out.now e1 c.put32-2.ensures (omega arith) (omega (arith, c.requires)) in
-    let e3 : _ = lay_chain c.args.at (c.args.at + 2 + 4 + 4) (((69 ∷ 68 ∷ []) ++ bytes_of 4 c.args.left) ++ bytes_of 4 c.args.right) (bytes_of 2 c.args.parent) c.args.out.now e2 c.put16.ensures (omega arith) (omega (arith, c.requires)) in
-    let e4 : _ = lay_chain c.args.at (c.args.at + 2 + 4 + 4 + 2) ((((69 ∷ 68 ∷ []) ++ bytes_of 4 c.args.left) ++ bytes_of 4 c.args.right) ++ bytes_of 2 c.args.parent) (bytes_of 2 c.args.child) c.args.out.now e3 c.put16-2.ensures (omega arith) (omega (arith, c.requires)) in
+    let e1 : _ = lay_chain c.args.at (c.args.at + 2) (69 ∷ 68 ∷ []) (bytes_of 4 (at c.args.edges.left.now c.args.i)) c.args.out.now e0 c.put32.ensures (omega arith) (omega (arith, c.requires.0)) in
+    let e2 : _ = lay_chain c.args.at (c.args.at + 2 + 4) ((69 ∷ 68 ∷ []) ++ bytes_of 4 (at c.args.edges.left.now c.args.i)) (bytes_of 4 (at c.args.edges.right.now c.args.i)) c.args.out.now e1 c.put32-2.ensures (omega arith) (omega (arith, c.requires.0)) in
+    let e3 : _ = lay_chain c.args.at (c.args.at + 2 + 4 + 4) (((69 ∷ 68 ∷ []) ++ bytes_of 4 (at c.args.edges.left.now c.args.i)) ++ bytes_of 4 (at c.args.edges.right.now c.args.i)) (bytes_of 2 (at c.args.edges.parent.now c.args.i)) c.args.out.now e2 c.put16.ensures (omega arith) (omega (arith, c.requires.0)) in
+    let e4 : _ = lay_chain c.args.at (c.args.at + 2 + 4 + 4 + 2) ((((69 ∷ 68 ∷ []) ++ bytes_of 4 (at c.args.edges.left.now c.args.i)) ++ bytes_of 4 (at c.args.edges.right.now c.args.i)) ++ bytes_of 2 (at c.args.edges.parent.now c.args.i)) (bytes_of 2 (at c.args.edges.child.now c.args.i)) c.args.out.now e3 c.put16-2.ensures (omega arith) (omega (arith, c.requires.0)) in
     e4

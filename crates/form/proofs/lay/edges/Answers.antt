@@ -9,20 +9,20 @@ use native.Mathlib.Omega.{arith}
 use Rattle.form.proofs.lay.edges.Goals as goal
 
 pub loop-i-init : goal.loop-i-init
-loop-i-init c = laid_start (ED 2 stored_limits) (c.args.left.now ∷ c.args.right.now ∷ c.args.parent.now ∷ c.args.child.now ∷ []) c.args.start 14 (length c.args.left.now) c.args.out.now
+loop-i-init c = laid_start (ED 2 stored_limits) (c.args.edges.left.now ∷ c.args.edges.right.now ∷ c.args.edges.parent.now ∷ c.args.edges.child.now ∷ []) c.args.start 14 (length c.args.edges.left.now) c.args.out.now
 
 pub edge_row-requires : goal.edge_row-requires
-edge_row-requires c = omega (arith, laid_room (ED 2 stored_limits) (c.args.left.now ∷ c.args.right.now ∷ c.args.parent.now ∷ c.args.child.now ∷ []) c.args.start 14 (length c.args.left.now) c.args.out.now c.loop-i.out c.loop-i.at c.loop-i.i c.loop-i.invariant c.requires.0 c.loop-i-test.true, c.loop-i.invariant.same)
+edge_row-requires c = (omega (arith, laid_room (ED 2 stored_limits) (c.args.edges.left.now ∷ c.args.edges.right.now ∷ c.args.edges.parent.now ∷ c.args.edges.child.now ∷ []) c.args.start 14 (length c.args.edges.left.now) c.args.out.now c.loop-i.out c.loop-i.at c.loop-i.i c.loop-i.invariant c.requires c.loop-i-test.true, c.loop-i.invariant.same), c.loop-i-test.true)
 
 pub overflow_add-at : goal.overflow_add-at
-overflow_add-at c = omega (arith, laid_room (ED 2 stored_limits) (c.args.left.now ∷ c.args.right.now ∷ c.args.parent.now ∷ c.args.child.now ∷ []) c.args.start 14 (length c.args.left.now) c.args.out.now c.loop-i.out c.loop-i.at c.loop-i.i c.loop-i.invariant c.requires.0 c.loop-i-test.true)
+overflow_add-at c = omega (arith, laid_room (ED 2 stored_limits) (c.args.edges.left.now ∷ c.args.edges.right.now ∷ c.args.edges.parent.now ∷ c.args.edges.child.now ∷ []) c.args.start 14 (length c.args.edges.left.now) c.args.out.now c.loop-i.out c.loop-i.at c.loop-i.i c.loop-i.invariant c.requires c.loop-i-test.true)
 
 pub loop-i-preserved : goal.loop-i-preserved
 unfolding size total record_at fields_at
-loop-i-preserved c = laid_more (ED 2 stored_limits) (c.args.left.now ∷ c.args.right.now ∷ c.args.parent.now ∷ c.args.child.now ∷ []) c.args.start 14 (length c.args.left.now) c.args.out.now c.loop-i.out c.loop-i.at c.loop-i.i _ refl refl c.requires.0 c.loop-i.invariant c.loop-i-test.true c.edge_row.ensures
+loop-i-preserved c = laid_more (ED 2 stored_limits) (c.args.edges.left.now ∷ c.args.edges.right.now ∷ c.args.edges.parent.now ∷ c.args.edges.child.now ∷ []) c.args.start 14 (length c.args.edges.left.now) c.args.out.now c.loop-i.out c.loop-i.at c.loop-i.i _ refl refl c.requires c.loop-i.invariant c.loop-i-test.true c.edge_row.ensures
 
 pub shape_of-out : goal.shape_of-out
 shape_of-out c = c.loop-i.invariant.same
 
 pub returns : goal.returns
-returns c = laid_end (ED 2 stored_limits) (c.args.left.now ∷ c.args.right.now ∷ c.args.parent.now ∷ c.args.child.now ∷ []) c.args.start 14 (length c.args.left.now) c.args.out.now c.loop-i.out c.loop-i.at c.loop-i.i c.loop-i.invariant c.loop-i-test.false
+returns c = laid_end (ED 2 stored_limits) (c.args.edges.left.now ∷ c.args.edges.right.now ∷ c.args.edges.parent.now ∷ c.args.edges.child.now ∷ []) c.args.start 14 (length c.args.edges.left.now) c.args.out.now c.loop-i.out c.loop-i.at c.loop-i.i c.loop-i.invariant c.loop-i-test.false

@@ -7,4 +7,4 @@ use Rattle.form.proofs.Laying.{Laid}
 use Rattle.form.proofs.lay.edges.Given as goal
 
 abbrev pub invariant-loop-i : goal.invariant-loop-i
-invariant-loop-i l = Laid (ED 2 stored_limits) (l.left ∷ l.right ∷ l.parent ∷ l.child ∷ []) l.start 14 (length l.left) l.initial.out l.out l.at l.i
+invariant-loop-i l = Laid (ED 2 stored_limits) (l.edges.left.now ∷ l.edges.right.now ∷ l.edges.parent.now ∷ l.edges.child.now ∷ []) l.start 14 (length l.edges.left.now) l.initial.out l.out l.at l.i

@@ -7,4 +7,4 @@ use Rattle.form.proofs.Laying.{Laid}
 use Rattle.form.proofs.lay.mutations.Given as goal
 
 abbrev pub invariant-loop-i : goal.invariant-loop-i
-invariant-loop-i l = Laid (MU 2 stored_limits) (l.site ∷ l.node ∷ l.derived ∷ []) l.start 7 (length l.site) l.initial.out l.out l.at l.i
+invariant-loop-i l = Laid (MU 2 stored_limits) (l.mutations.site.now ∷ l.mutations.node.now ∷ l.mutations.derived.now ∷ []) l.start 7 (length l.mutations.site.now) l.initial.out l.out l.at l.i

@@ -9,20 +9,20 @@ use native.Mathlib.Omega.{arith}
 use Rattle.form.proofs.lay.nodes.Goals as goal
 
 pub loop-i-init : goal.loop-i-init
-loop-i-init c = laid_start (ND stored_limits) (c.args.time.now ∷ c.args.birth.now ∷ []) c.args.start 10 (length c.args.time.now) c.args.out.now
+loop-i-init c = laid_start (ND stored_limits) (c.args.ages.time.now ∷ c.args.ages.birth.now ∷ []) c.args.start 10 (length c.args.ages.time.now) c.args.out.now
 
 pub node_row-requires : goal.node_row-requires
-node_row-requires c = omega (arith, laid_room (ND stored_limits) (c.args.time.now ∷ c.args.birth.now ∷ []) c.args.start 10 (length c.args.time.now) c.args.out.now c.loop-i.out c.loop-i.at c.loop-i.i c.loop-i.invariant c.requires.0 c.loop-i-test.true, c.loop-i.invariant.same)
+node_row-requires c = (omega (arith, laid_room (ND stored_limits) (c.args.ages.time.now ∷ c.args.ages.birth.now ∷ []) c.args.start 10 (length c.args.ages.time.now) c.args.out.now c.loop-i.out c.loop-i.at c.loop-i.i c.loop-i.invariant c.requires c.loop-i-test.true, c.loop-i.invariant.same), c.loop-i-test.true)
 
 pub overflow_add-at : goal.overflow_add-at
-overflow_add-at c = omega (arith, laid_room (ND stored_limits) (c.args.time.now ∷ c.args.birth.now ∷ []) c.args.start 10 (length c.args.time.now) c.args.out.now c.loop-i.out c.loop-i.at c.loop-i.i c.loop-i.invariant c.requires.0 c.loop-i-test.true)
+overflow_add-at c = omega (arith, laid_room (ND stored_limits) (c.args.ages.time.now ∷ c.args.ages.birth.now ∷ []) c.args.start 10 (length c.args.ages.time.now) c.args.out.now c.loop-i.out c.loop-i.at c.loop-i.i c.loop-i.invariant c.requires c.loop-i-test.true)
 
 pub loop-i-preserved : goal.loop-i-preserved
 unfolding size total record_at fields_at
-loop-i-preserved c = laid_more (ND stored_limits) (c.args.time.now ∷ c.args.birth.now ∷ []) c.args.start 10 (length c.args.time.now) c.args.out.now c.loop-i.out c.loop-i.at c.loop-i.i _ refl refl c.requires.0 c.loop-i.invariant c.loop-i-test.true c.node_row.ensures
+loop-i-preserved c = laid_more (ND stored_limits) (c.args.ages.time.now ∷ c.args.ages.birth.now ∷ []) c.args.start 10 (length c.args.ages.time.now) c.args.out.now c.loop-i.out c.loop-i.at c.loop-i.i _ refl refl c.requires c.loop-i.invariant c.loop-i-test.true c.node_row.ensures
 
 pub shape_of-out : goal.shape_of-out
 shape_of-out c = c.loop-i.invariant.same
 
 pub returns : goal.returns
-returns c = laid_end (ND stored_limits) (c.args.time.now ∷ c.args.birth.now ∷ []) c.args.start 10 (length c.args.time.now) c.args.out.now c.loop-i.out c.loop-i.at c.loop-i.i c.loop-i.invariant c.loop-i-test.false
+returns c = laid_end (ND stored_limits) (c.args.ages.time.now ∷ c.args.ages.birth.now ∷ []) c.args.start 10 (length c.args.ages.time.now) c.args.out.now c.loop-i.out c.loop-i.at c.loop-i.i c.loop-i.invariant c.loop-i-test.false

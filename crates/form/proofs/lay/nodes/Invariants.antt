@@ -7,4 +7,4 @@ use Rattle.form.proofs.Laying.{Laid}
 use Rattle.form.proofs.lay.nodes.Given as goal
 
 abbrev pub invariant-loop-i : goal.invariant-loop-i
-invariant-loop-i l = Laid (ND stored_limits) (l.time ∷ l.birth ∷ []) l.start 10 (length l.time) l.initial.out l.out l.at l.i
+invariant-loop-i l = Laid (ND stored_limits) (l.ages.time.now ∷ l.ages.birth.now ∷ []) l.start 10 (length l.ages.time.now) l.initial.out l.out l.at l.i

@@ -9,20 +9,20 @@ use native.Mathlib.Omega.{arith}
 use Rattle.form.proofs.lay.sites.Goals as goal
 
 pub loop-i-init : goal.loop-i-init
-loop-i-init c = laid_start (Si stored_limits) (c.args.position.now ∷ c.args.ancestral.now ∷ []) c.args.start 7 (length c.args.position.now) c.args.out.now
+loop-i-init c = laid_start (Si stored_limits) (c.args.sites.position.now ∷ c.args.sites.ancestral.now ∷ []) c.args.start 7 (length c.args.sites.position.now) c.args.out.now
 
 pub site_row-requires : goal.site_row-requires
-site_row-requires c = omega (arith, laid_room (Si stored_limits) (c.args.position.now ∷ c.args.ancestral.now ∷ []) c.args.start 7 (length c.args.position.now) c.args.out.now c.loop-i.out c.loop-i.at c.loop-i.i c.loop-i.invariant c.requires.0 c.loop-i-test.true, c.loop-i.invariant.same)
+site_row-requires c = (omega (arith, laid_room (Si stored_limits) (c.args.sites.position.now ∷ c.args.sites.ancestral.now ∷ []) c.args.start 7 (length c.args.sites.position.now) c.args.out.now c.loop-i.out c.loop-i.at c.loop-i.i c.loop-i.invariant c.requires c.loop-i-test.true, c.loop-i.invariant.same), c.loop-i-test.true)
 
 pub overflow_add-at : goal.overflow_add-at
-overflow_add-at c = omega (arith, laid_room (Si stored_limits) (c.args.position.now ∷ c.args.ancestral.now ∷ []) c.args.start 7 (length c.args.position.now) c.args.out.now c.loop-i.out c.loop-i.at c.loop-i.i c.loop-i.invariant c.requires.0 c.loop-i-test.true)
+overflow_add-at c = omega (arith, laid_room (Si stored_limits) (c.args.sites.position.now ∷ c.args.sites.ancestral.now ∷ []) c.args.start 7 (length c.args.sites.position.now) c.args.out.now c.loop-i.out c.loop-i.at c.loop-i.i c.loop-i.invariant c.requires c.loop-i-test.true)
 
 pub loop-i-preserved : goal.loop-i-preserved
 unfolding size total record_at fields_at
-loop-i-preserved c = laid_more (Si stored_limits) (c.args.position.now ∷ c.args.ancestral.now ∷ []) c.args.start 7 (length c.args.position.now) c.args.out.now c.loop-i.out c.loop-i.at c.loop-i.i _ refl refl c.requires.0 c.loop-i.invariant c.loop-i-test.true c.site_row.ensures
+loop-i-preserved c = laid_more (Si stored_limits) (c.args.sites.position.now ∷ c.args.sites.ancestral.now ∷ []) c.args.start 7 (length c.args.sites.position.now) c.args.out.now c.loop-i.out c.loop-i.at c.loop-i.i _ refl refl c.requires c.loop-i.invariant c.loop-i-test.true c.site_row.ensures
 
 pub shape_of-out : goal.shape_of-out
 shape_of-out c = c.loop-i.invariant.same
 
 pub returns : goal.returns
-returns c = laid_end (Si stored_limits) (c.args.position.now ∷ c.args.ancestral.now ∷ []) c.args.start 7 (length c.args.position.now) c.args.out.now c.loop-i.out c.loop-i.at c.loop-i.i c.loop-i.invariant c.loop-i-test.false
+returns c = laid_end (Si stored_limits) (c.args.sites.position.now ∷ c.args.sites.ancestral.now ∷ []) c.args.start 7 (length c.args.sites.position.now) c.args.out.now c.loop-i.out c.loop-i.at c.loop-i.i c.loop-i.invariant c.loop-i-test.false

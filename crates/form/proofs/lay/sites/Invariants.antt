@@ -7,4 +7,4 @@ use Rattle.form.proofs.Laying.{Laid}
 use Rattle.form.proofs.lay.sites.Given as goal
 
 abbrev pub invariant-loop-i : goal.invariant-loop-i
-invariant-loop-i l = Laid (Si stored_limits) (l.position ∷ l.ancestral ∷ []) l.start 7 (length l.position) l.initial.out l.out l.at l.i
+invariant-loop-i l = Laid (Si stored_limits) (l.sites.position.now ∷ l.sites.ancestral.now ∷ []) l.start 7 (length l.sites.position.now) l.initial.out l.out l.at l.i
