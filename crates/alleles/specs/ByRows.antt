@@ -17,6 +17,7 @@ use Rattle.bridge.specs.Parents.{parent_row}
 use Rattle.bridge.specs.Rename.{map_option, Renamed, near_names, near_inside}
 use Rattle.bridge.specs.Columns.{Within, parent_names}
 use Rattle.bridge.specs.Sites.{pos_at, state_at, carries_names, last_names}
+use Rattle.ancestry.specs.Index.{Ends, Indexed}
 use Rattle.ancestry.specs.Rises.{parent_rises}
 use Rattle.missing.specs.Marks.{marked, Naming, mark, marks_of, states_of}
 use Rattle.missing.specs.Climbable.{Climbable}
@@ -65,6 +66,10 @@ module _ (L : ℕ) (T : Tables) (by : List ℕ) (ok : Readable L T by) (i m : �
   -- each mutation is on one of m rows
   pub naming : Naming T.muts m
   naming = record { node_long = ok.naming.node_long; derived_long = ok.naming.derived_long; node_row = λ j l. omega (arith, ok.naming.node_row j l) }
+
+  -- with ends that are filled the edges are what a parent is looked up in
+  pub indexed_by : (ends : List ℕ) → Ends T.edges.child by ends → Indexed T.edges L by ends
+  indexed_by ends filled = record { even = ok.rising.even; whole = ok.whole; order = ok.order; ends = filled }
 
   abbrev n : ℕ
   n = length T.nodes.birth
