@@ -1,9 +1,9 @@
--- `cleaner::finish::reorder` meets its contract: gathered in the spare column, and copied back.
+-- `cleaner::out::reorder` meets its contract: gathered in the spare column, and copied back.
 use Rattle.meaning.specs.Words.{at}
 use Rattle.cleaner.proofs.Storing.{inside_more}
 use Rattle.cleaner.proofs.Finishing.{copied_back}
 use native.Mathlib.Omega.{arith}
-use Rattle.cleaner.proofs.finish.reorder.Goals as goal
+use Rattle.cleaner.proofs.out.reorder.Goals as goal
 
 pub gather-requires : goal.gather-requires
 gather-requires c = (c.requires.0, c.requires.2, inside_more c.requires.1 c.requires.3)
