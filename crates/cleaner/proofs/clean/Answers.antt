@@ -42,44 +42,5 @@ returns-in_err-check_all_lent c =
     let out : _ = (tables (node_table c.args.out_time.now c.args.out_birth.now c.args.out_population.now) (edge_table c.args.out_left.now c.args.out_right.now c.args.out_parent.now c.args.out_child.now) (site_table c.args.out_position.now c.args.out_ancestral.now) (mutation_table c.args.out_site.now c.args.out_node.now c.args.out_derived.now)) in
     ap (λ (a : Tabled). outcome_of a out c.args.out_map.now) (passed_on c.from_residual.ensures.1) ∙ call_refused _ _ _ _ c.check_all_lent.ensures.0 out c.args.out_map.now c.args.cells _ c.in_err-check_all_lent.was
 
-pub shape_of-out_time : goal.shape_of-out_time
-shape_of-out_time c = c.clean_sound.auto.out_time
-
-pub shape_of-out_birth : goal.shape_of-out_birth
-shape_of-out_birth c = c.clean_sound.auto.out_birth
-
-pub shape_of-out_population : goal.shape_of-out_population
-shape_of-out_population c = c.clean_sound.auto.out_population
-
-pub shape_of-out_left : goal.shape_of-out_left
-shape_of-out_left c = c.clean_sound.auto.out_left
-
-pub shape_of-out_right : goal.shape_of-out_right
-shape_of-out_right c = c.clean_sound.auto.out_right
-
-pub shape_of-out_parent : goal.shape_of-out_parent
-shape_of-out_parent c = c.clean_sound.auto.out_parent
-
-pub shape_of-out_child : goal.shape_of-out_child
-shape_of-out_child c = c.clean_sound.auto.out_child
-
-pub shape_of-out_position : goal.shape_of-out_position
-shape_of-out_position c = c.clean_sound.auto.out_position
-
-pub shape_of-out_ancestral : goal.shape_of-out_ancestral
-shape_of-out_ancestral c = c.clean_sound.auto.out_ancestral
-
-pub shape_of-out_site : goal.shape_of-out_site
-shape_of-out_site c = c.clean_sound.auto.out_site
-
-pub shape_of-out_node : goal.shape_of-out_node
-shape_of-out_node c = c.clean_sound.auto.out_node
-
-pub shape_of-out_derived : goal.shape_of-out_derived
-shape_of-out_derived c = c.clean_sound.auto.out_derived
-
-pub shape_of-out_map : goal.shape_of-out_map
-shape_of-out_map c = c.clean_sound.auto.out_map
-
 pub returns : goal.returns
 returns c = call_done _ _ _ _ c.check_all_lent.ensures.0 _ _ _ c.in_ok-check_all_lent.was _ c.clean_sound.ensures

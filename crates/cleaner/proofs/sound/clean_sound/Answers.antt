@@ -47,9 +47,6 @@ slice_bounds-work-end-11 c = sym (length-replicate {A = ℕ} 512 0)
 pub work-z-requires : goal.work-z-requires
 work-z-requires c = (record { population = _; ancestral = _; derived = _; footing = c.requires.0 }, (length-replicate {A = ℕ} 1280 0, length-replicate {A = ℕ} 1024 0, length-replicate {A = ℕ} 1024 0, c.requires.2, length-replicate {A = ℕ} 4096 0, refl, refl, refl, length-replicate {A = ℕ} 1024 0, refl), c.requires.1)
 
-pub shape_of-bl-in_err-check_room_and_block : goal.shape_of-bl-in_err-check_room_and_block
-shape_of-bl-in_err-check_room_and_block c = c.work-z.auto.bl
-
 pub returns-in_err-check_room_and_block : goal.returns-in_err-check_room_and_block
 returns-in_err-check_room_and_block c =
     let out : _ = (tables (node_table c.args.out_time.now c.args.out_birth.now c.args.out_population.now) (edge_table c.args.out_left.now c.args.out_right.now c.args.out_parent.now c.args.out_child.now) (site_table c.args.out_position.now c.args.out_ancestral.now) (mutation_table c.args.out_site.now c.args.out_node.now c.args.out_derived.now)) in
@@ -94,48 +91,6 @@ slice_bounds-copy-end c = sym (c.work-z.auto.places ∙ length-replicate {A = �
 
 pub copy-requires : goal.copy-requires
 copy-requires c = (map_room (c.work-z.ensures _ c.requires.0), (room_left _ _ _ (ap checked_of (sym c.in_ok-check_room_and_block.was) ∙ c.check_room_and_block.ensures)).nodemap)
-
-pub shape_of-out_time : goal.shape_of-out_time
-shape_of-out_time c = c.write_nodes.auto.out_time
-
-pub shape_of-out_birth : goal.shape_of-out_birth
-shape_of-out_birth c = c.write_nodes.auto.out_birth
-
-pub shape_of-out_population : goal.shape_of-out_population
-shape_of-out_population c = c.write_nodes.auto.out_population
-
-pub shape_of-out_left : goal.shape_of-out_left
-shape_of-out_left c = c.write_lists.auto.out_left
-
-pub shape_of-out_right : goal.shape_of-out_right
-shape_of-out_right c = c.write_lists.auto.out_right
-
-pub shape_of-out_parent : goal.shape_of-out_parent
-shape_of-out_parent c = c.write_lists.auto.out_parent
-
-pub shape_of-out_child : goal.shape_of-out_child
-shape_of-out_child c = c.write_lists.auto.out_child
-
-pub shape_of-out_position : goal.shape_of-out_position
-shape_of-out_position c = c.write_sites.auto.out_position
-
-pub shape_of-out_ancestral : goal.shape_of-out_ancestral
-shape_of-out_ancestral c = c.write_sites.auto.out_ancestral
-
-pub shape_of-out_site : goal.shape_of-out_site
-shape_of-out_site c = c.write_lists.auto.out_site
-
-pub shape_of-out_node : goal.shape_of-out_node
-shape_of-out_node c = c.write_lists.auto.out_node
-
-pub shape_of-out_derived : goal.shape_of-out_derived
-shape_of-out_derived c = c.write_lists.auto.out_derived
-
-pub shape_of-out_map : goal.shape_of-out_map
-shape_of-out_map c = c.copy.auto.out
-
-pub shape_of-bl : goal.shape_of-bl
-shape_of-bl c = c.write_lists.auto.bl ∙ c.work-z.auto.bl
 
 pub returns : goal.returns
 returns c = done_after (c.work-z.ensures _ c.requires.0) _ _ _ (sym c.check_room_and_block.ensures ∙ ap checked_of c.in_ok-check_room_and_block.was) _ _ c.write_nodes.ensures.0 c.write_nodes.ensures.1 c.write_nodes.ensures.2 c.write_sites.ensures.0 c.write_sites.ensures.1 c.write_lists.ensures c.copy.ensures

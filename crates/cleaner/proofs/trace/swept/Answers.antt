@@ -58,26 +58,5 @@ slice_bounds-sweep-end-9 c = cut (length c.args.tables.ages.time.now) (replicate
 pub sweep-requires : goal.sweep-requires
 sweep-requires c = asked c.requires.0 _ c.requires.1 _ c.requires.2 (length (replicate {A = ℕ} 1024 0)) (omega (arith, length-replicate {A = ℕ} 1024 0, c.requires.0.few)) _ _ _ _ _ _ _ _ (sym (cut (length c.args.tables.ages.time.now) (replicate {A = ℕ} 1024 0) (omega (arith, length-replicate {A = ℕ} 1024 0, c.requires.0.few)))) (sym (cut (length c.args.tables.ages.time.now) (replicate {A = ℕ} 1024 0) (omega (arith, length-replicate {A = ℕ} 1024 0, c.requires.0.few)))) (sym (cut (length c.args.tables.ages.time.now) (replicate {A = ℕ} 1024 0) (omega (arith, length-replicate {A = ℕ} 1024 0, c.requires.0.few)))) (sym (cut (length c.args.tables.ages.time.now) (replicate {A = ℕ} 1024 0) (omega (arith, length-replicate {A = ℕ} 1024 0, c.requires.0.few)))) (sym (cut (length c.args.tables.ages.time.now) (replicate {A = ℕ} 1024 0) (omega (arith, length-replicate {A = ℕ} 1024 0, c.requires.0.few)))) (sym (cut (length c.args.tables.ages.time.now) (replicate {A = ℕ} 1024 0) (omega (arith, length-replicate {A = ℕ} 1024 0, c.requires.0.few)))) (sym (cut (length c.args.tables.ages.time.now) (replicate {A = ℕ} 1024 0) (omega (arith, length-replicate {A = ℕ} 1024 0, c.requires.0.few)))) (sym (cut (length c.args.tables.ages.time.now) (replicate {A = ℕ} 1024 0) (omega (arith, length-replicate {A = ℕ} 1024 0, c.requires.0.few))))
 
-pub shape_of-fl : goal.shape_of-fl
-shape_of-fl c = c.sweep.auto.fl
-
-pub shape_of-fr : goal.shape_of-fr
-shape_of-fr c = c.sweep.auto.fr
-
-pub shape_of-fp : goal.shape_of-fp
-shape_of-fp c = c.sweep.auto.fp
-
-pub shape_of-fc : goal.shape_of-fc
-shape_of-fc c = c.sweep.auto.fc
-
-pub shape_of-stood : goal.shape_of-stood
-shape_of-stood c = c.sweep.auto.stood
-
-pub shape_of-mrow : goal.shape_of-mrow
-shape_of-mrow c = c.sweep.auto.mrow
-
-pub shape_of-mlow : goal.shape_of-mlow
-shape_of-mlow c = c.sweep.auto.mlow
-
 pub returns : goal.returns
 returns c = c.sweep.ensures
