@@ -1,12 +1,12 @@
 -- `cleaner::clean` meets its contract: the check's refusal, or the cleaning of sound tables.
-use Rattle.std.proofs.Common.{sym, ap, ◌∙◌}
+use Rattle.std.proofs.Common.{ap, ◌∙◌}
 use Rattle.laws.specs.Passing.{passed_on}
 use Rattle.meaning.specs.Lent.{Tabled}
 use Rattle.meaning.specs.Rows.{node_table, edge_table, site_table, mutation_table, tables}
 use Rattle.meaning.specs.Clean.{outcome_of}
 use Prim.Native.Nat.{ℕ}
 use lib.ListN.{length-replicate}
-use Rattle.cleaner.proofs.Calling.{grounded, shaped, births_room, call_refused, call_done}
+use Rattle.cleaner.proofs.Calling.{grounded, shaped, call_refused, call_done}
 use native.Mathlib.Omega.{arith}
 use Rattle.cleaner.proofs.clean.Goals as goal
 
@@ -24,15 +24,6 @@ invariant_of-even-3 c = record { even = record { ancestral_long = (shaped _ _ _ 
 
 pub invariant_of-even-4 : goal.invariant_of-even-4
 invariant_of-even-4 c = let s : _ = shaped _ _ _ _ c.check_all_lent.ensures.0 c.in_ok-check_all_lent.was in record { even = record { node_long = s.mutated; derived_long = s.derived } }
-
-pub slice_bounds-clean_sound-end : goal.slice_bounds-clean_sound-end
-slice_bounds-clean_sound-end c = sym (c.check_all_lent.auto.by_child ∙ length-replicate {A = ℕ} 4096 0)
-
-pub slice_bounds-by_birth-end : goal.slice_bounds-by_birth-end
-slice_bounds-by_birth-end c = births_room _ _ _ _ c.check_all_lent.ensures.0 c.in_ok-check_all_lent.was c.check_all_lent.new.by_birth _ (length-replicate {A = ℕ} 1024 0) c.check_all_lent.auto.by_birth
-
-pub slice_bounds-clean_sound-end-2 : goal.slice_bounds-clean_sound-end-2
-slice_bounds-clean_sound-end-2 c = sym (c.check_all_lent.ensures.1.births c.in_ok-check_all_lent.was).long
 
 pub clean_sound-requires : goal.clean_sound-requires
 clean_sound-requires c = (grounded _ _ _ _ c.check_all_lent.ensures.0 c.in_ok-check_all_lent.was (λ i l. omega (arith, c.type_inv.time i)), c.check_all_lent.ensures.1.births c.in_ok-check_all_lent.was, c.check_all_lent.auto.by_child ∙ length-replicate {A = ℕ} 4096 0)

@@ -6,57 +6,6 @@ use Rattle.cleaner.proofs.Filling.{part_written, filled}
 use native.Mathlib.Omega.{arith}
 use Rattle.cleaner.proofs.fill.again.Goals as goal
 
-pub slice_bounds-swept-end : goal.slice_bounds-swept-end
-slice_bounds-swept-end c = cut (length c.args.tables.ages.time.now) c.args.sample.now c.requires.1
-
-pub slice_bounds-swept-end-2 : goal.slice_bounds-swept-end-2
-slice_bounds-swept-end-2 c = cut (length c.args.tables.edges.left.now) c.args.bl.now c.requires.2
-
-pub slice_bounds-swept-end-3 : goal.slice_bounds-swept-end-3
-slice_bounds-swept-end-3 c = cut (length c.args.tables.edges.left.now) c.args.br.now c.requires.3
-
-pub slice_bounds-swept-end-4 : goal.slice_bounds-swept-end-4
-slice_bounds-swept-end-4 c = c.requires.5
-
-pub slice_bounds-swept-end-5 : goal.slice_bounds-swept-end-5
-slice_bounds-swept-end-5 c = cut c.args.edges c.args.out.now.left.now c.requires.5
-
-pub slice_bounds-swept-end-6 : goal.slice_bounds-swept-end-6
-slice_bounds-swept-end-6 c = c.requires.6
-
-pub slice_bounds-swept-end-7 : goal.slice_bounds-swept-end-7
-slice_bounds-swept-end-7 c = cut c.args.edges c.args.out.now.right.now c.requires.6
-
-pub slice_bounds-swept-end-8 : goal.slice_bounds-swept-end-8
-slice_bounds-swept-end-8 c = c.requires.7
-
-pub slice_bounds-swept-end-9 : goal.slice_bounds-swept-end-9
-slice_bounds-swept-end-9 c = cut c.args.edges c.args.out.now.parent.now c.requires.7
-
-pub slice_bounds-swept-end-10 : goal.slice_bounds-swept-end-10
-slice_bounds-swept-end-10 c = c.requires.8
-
-pub slice_bounds-swept-end-11 : goal.slice_bounds-swept-end-11
-slice_bounds-swept-end-11 c = cut c.args.edges c.args.out.now.child.now c.requires.8
-
-pub slice_bounds-swept-end-12 : goal.slice_bounds-swept-end-12
-slice_bounds-swept-end-12 c = c.requires.4
-
-pub slice_bounds-swept-end-13 : goal.slice_bounds-swept-end-13
-slice_bounds-swept-end-13 c = cut (length c.args.tables.ages.time.now) c.args.stood.now c.requires.4
-
-pub slice_bounds-swept-end-14 : goal.slice_bounds-swept-end-14
-slice_bounds-swept-end-14 c = c.requires.9
-
-pub slice_bounds-swept-end-15 : goal.slice_bounds-swept-end-15
-slice_bounds-swept-end-15 c = cut c.args.mutations c.args.out_site.now c.requires.9
-
-pub slice_bounds-swept-end-16 : goal.slice_bounds-swept-end-16
-slice_bounds-swept-end-16 c = c.requires.10
-
-pub slice_bounds-swept-end-17 : goal.slice_bounds-swept-end-17
-slice_bounds-swept-end-17 c = cut c.args.mutations c.args.out_node.now c.requires.10
-
 pub swept-requires : goal.swept-requires
 swept-requires c = (c.requires.0, record { right_long = sym (cut c.args.edges c.args.out.now.right.now c.requires.6) ∙ (cut c.args.edges c.args.out.now.left.now c.requires.5); parent_long = sym (cut c.args.edges c.args.out.now.parent.now c.requires.7) ∙ (cut c.args.edges c.args.out.now.left.now c.requires.5); child_long = sym (cut c.args.edges c.args.out.now.child.now c.requires.8) ∙ (cut c.args.edges c.args.out.now.left.now c.requires.5); stood_long = sym (cut (length c.args.tables.ages.time.now) c.args.stood.now c.requires.4) }, sym (cut c.args.mutations c.args.out_node.now c.requires.10) ∙ (cut c.args.mutations c.args.out_site.now c.requires.9))
 

@@ -10,53 +10,11 @@ use Rattle.cleaner.proofs.Working.{nodes_within, edges_within, samples_rows}
 use native.Mathlib.Omega.{arith}
 use Rattle.cleaner.proofs.sound.work.Goals as goal
 
-pub slice_bounds-sample_rows-end : goal.slice_bounds-sample_rows-end
-slice_bounds-sample_rows-end c = nodes_within c.requires.0 c.args.sample.now c.requires.1.2
-
-pub slice_bounds-sample_rows-end-2 : goal.slice_bounds-sample_rows-end-2
-slice_bounds-sample_rows-end-2 c = cut (length c.args.tables.ages.time.now) c.args.sample.now (nodes_within c.requires.0 c.args.sample.now c.requires.1.2)
-
 pub sample_rows-requires : goal.sample_rows-requires
 sample_rows-requires c = (c.requires.0.footing.listed.known, omega (arith, c.requires.0.footing.listed.few, c.requires.1.0), omega (arith, c.requires.0.footing.sound.size.nodes, c.requires.0.footing.sound.shape.births), sym (cut (length c.args.tables.ages.time.now) c.args.sample.now (nodes_within c.requires.0 c.args.sample.now c.requires.1.2)) ∙ sym c.requires.0.footing.sound.shape.births, c.requires.2)
 
-pub slice_bounds-both_orders-end : goal.slice_bounds-both_orders-end
-slice_bounds-both_orders-end c = edges_within c.requires.0 c.args.bl.now c.requires.1.3
-
-pub slice_bounds-both_orders-end-2 : goal.slice_bounds-both_orders-end-2
-slice_bounds-both_orders-end-2 c = cut (length c.args.tables.edges.left.now) c.args.bl.now (edges_within c.requires.0 c.args.bl.now c.requires.1.3)
-
-pub slice_bounds-both_orders-end-3 : goal.slice_bounds-both_orders-end-3
-slice_bounds-both_orders-end-3 c = edges_within c.requires.0 c.args.br.now c.requires.1.4
-
-pub slice_bounds-both_orders-end-4 : goal.slice_bounds-both_orders-end-4
-slice_bounds-both_orders-end-4 c = cut (length c.args.tables.edges.left.now) c.args.br.now (edges_within c.requires.0 c.args.br.now c.requires.1.4)
-
 pub both_orders-requires : goal.both_orders-requires
 both_orders-requires c = (sym (cut (length c.args.tables.edges.left.now) c.args.bl.now (edges_within c.requires.0 c.args.bl.now c.requires.1.3)), sym (cut (length c.args.tables.edges.left.now) c.args.br.now (edges_within c.requires.0 c.args.br.now c.requires.1.4)), omega (arith, (edges_fit c.requires.0).0))
-
-pub slice_bounds-swept-end : goal.slice_bounds-swept-end
-slice_bounds-swept-end c = nodes_within c.requires.0 (c.sample_rows.new.sample ++ drop (length c.args.tables.ages.time.now) c.args.sample.now) (length_front c.args.sample.now c.sample_rows.new.sample (length c.args.tables.ages.time.now) c.sample_rows.auto.sample ∙ c.requires.1.2)
-
-pub slice_bounds-swept-end-2 : goal.slice_bounds-swept-end-2
-slice_bounds-swept-end-2 c = cut (length c.args.tables.ages.time.now) (c.sample_rows.new.sample ++ drop (length c.args.tables.ages.time.now) c.args.sample.now) (nodes_within c.requires.0 (c.sample_rows.new.sample ++ drop (length c.args.tables.ages.time.now) c.args.sample.now) (length_front c.args.sample.now c.sample_rows.new.sample (length c.args.tables.ages.time.now) c.sample_rows.auto.sample ∙ c.requires.1.2))
-
-pub slice_bounds-swept-end-3 : goal.slice_bounds-swept-end-3
-slice_bounds-swept-end-3 c = edges_within c.requires.0 (c.both_orders.new.bl ++ drop (length c.args.tables.edges.left.now) c.args.bl.now) (length_front c.args.bl.now c.both_orders.new.bl (length c.args.tables.edges.left.now) c.both_orders.auto.bl ∙ c.requires.1.3)
-
-pub slice_bounds-swept-end-4 : goal.slice_bounds-swept-end-4
-slice_bounds-swept-end-4 c = cut (length c.args.tables.edges.left.now) (c.both_orders.new.bl ++ drop (length c.args.tables.edges.left.now) c.args.bl.now) (edges_within c.requires.0 (c.both_orders.new.bl ++ drop (length c.args.tables.edges.left.now) c.args.bl.now) (length_front c.args.bl.now c.both_orders.new.bl (length c.args.tables.edges.left.now) c.both_orders.auto.bl ∙ c.requires.1.3))
-
-pub slice_bounds-swept-end-5 : goal.slice_bounds-swept-end-5
-slice_bounds-swept-end-5 c = edges_within c.requires.0 (c.both_orders.new.br ++ drop (length c.args.tables.edges.left.now) c.args.br.now) (length_front c.args.br.now c.both_orders.new.br (length c.args.tables.edges.left.now) c.both_orders.auto.br ∙ c.requires.1.4)
-
-pub slice_bounds-swept-end-6 : goal.slice_bounds-swept-end-6
-slice_bounds-swept-end-6 c = cut (length c.args.tables.edges.left.now) (c.both_orders.new.br ++ drop (length c.args.tables.edges.left.now) c.args.br.now) (edges_within c.requires.0 (c.both_orders.new.br ++ drop (length c.args.tables.edges.left.now) c.args.br.now) (length_front c.args.br.now c.both_orders.new.br (length c.args.tables.edges.left.now) c.both_orders.auto.br ∙ c.requires.1.4))
-
-pub slice_bounds-swept-end-7 : goal.slice_bounds-swept-end-7
-slice_bounds-swept-end-7 c = nodes_within c.requires.0 c.args.stood.now c.requires.1.8
-
-pub slice_bounds-swept-end-8 : goal.slice_bounds-swept-end-8
-slice_bounds-swept-end-8 c = cut (length c.args.tables.ages.time.now) c.args.stood.now (nodes_within c.requires.0 c.args.stood.now c.requires.1.8)
 
 pub swept-found-requires : goal.swept-found-requires
 swept-found-requires c = (sweepable c.requires.0 c.sample_rows.new.sample (drop (length c.args.tables.ages.time.now) c.args.sample.now) c.both_orders.new.bl (drop (length c.args.tables.edges.left.now) c.args.bl.now) c.both_orders.new.br (drop (length c.args.tables.edges.left.now) c.args.br.now) c.sample_rows.ensures.1 (c.both_orders.auto.bl ∙ sym (cut (length c.args.tables.edges.left.now) c.args.bl.now (edges_within c.requires.0 c.args.bl.now c.requires.1.3))) (c.both_orders.auto.br ∙ sym (cut (length c.args.tables.edges.left.now) c.args.br.now (edges_within c.requires.0 c.args.br.now c.requires.1.4))) c.both_orders.ensures.0 c.both_orders.ensures.1, record { right_long = c.requires.1.5; parent_long = c.requires.1.6; child_long = c.requires.1.7; stood_long = sym (cut (length c.args.tables.ages.time.now) c.args.stood.now (nodes_within c.requires.0 c.args.stood.now c.requires.1.8)) }, c.requires.1.9)
