@@ -77,14 +77,22 @@ module _ {L : ℕ} {T : Tables} {S : List ℕ} {W : Work} (r : Ready L T S W) wh
     pub lows_room : m ≤ length X₂
     lows_room = omega (arith, room.node, f.lows_front.long)
 
+    pub left_room : k ≤ length E₂.left
+    left_room = omega (arith, room.left, f.left_front.long)
+
+    pub right_room : k ≤ length E₂.right
+    right_room = omega (arith, room.right, f.right_front.long)
+
+    -- the lists are in turns, as the key order asks
+    pub in_turns : InTurns E₂.left E₂.child k
+    in_turns = turns L T S W r room.edges_few E E₂ M.site R₂ M.node X₂ f parent_room child_room
+
     -- what putting the edges in key order asks
-    pub finish_ready : {by : List ℕ} (order spare : List ℕ) → Ranked T.nodes.birth by → length order ≡ limits.edges → length spare ≡ limits.edges → (length T.nodes.time ≤ 1024) × Ranked T.nodes.birth by × Apart T.nodes.birth × (k ≤ length E₂.left) × (k ≤ length E₂.right) × (k ≤ length E₂.parent) × (k ≤ length E₂.child) × (k ≤ length order) × (k ≤ length spare) × (k ≤ 4294967295) × Inside (length T.nodes.time) (take k E₂.parent) × Inside (length T.nodes.time) (take k E₂.child) × InTurns E₂.left E₂.child k
-    finish_ready order spare a b c = (
+    pub order_ready : {by : List ℕ} (order spare : List ℕ) → Ranked T.nodes.birth by → length order ≡ limits.edges → length spare ≡ limits.edges → (length T.nodes.time ≤ 1024) × Ranked T.nodes.birth by × Apart T.nodes.birth × (k ≤ length E₂.parent) × (k ≤ length E₂.child) × (k ≤ length order) × (k ≤ length spare) × (k ≤ 4294967295) × Inside (length T.nodes.time) (take k E₂.parent) × Inside (length T.nodes.time) (take k E₂.child)
+    order_ready order spare a b c = (
       nodes_fit,
       a,
       once limits L T S r.footing,
-      omega (arith, room.left, f.left_front.long),
-      omega (arith, room.right, f.right_front.long),
       parent_room,
       child_room,
       omega (arith, room.edges_few),
@@ -92,8 +100,11 @@ module _ {L : ℕ} {T : Tables} {S : List ℕ} {W : Work} (r : Ready L T S W) wh
       omega (arith, room.edges_few),
       parents_rows L T S W r room.edges_few E E₂ M.site R₂ M.node X₂ f parent_room child_room,
       children_rows L T S W r room.edges_few E E₂ M.site R₂ M.node X₂ f parent_room child_room,
-      turns L T S W r room.edges_few E E₂ M.site R₂ M.node X₂ f parent_room child_room,
     )
+
+    -- a column as long as the edges' limit has room for their order
+    pub order_room : (order : List ℕ) → length order ≡ limits.edges → k ≤ length order
+    order_room order e = omega (arith, room.edges_few)
 
     -- what giving the mutations their sites, places and states asks
     pub mutations_ready : (m ≤ length R₂) × (m ≤ length X₂) × (m ≤ length M.derived) × Inside (length T.muts.derived) (take m R₂)
@@ -148,3 +159,7 @@ room_left n l cells e = room_for n l cells (sym e)
 -- the room for tables 2 and 4 is part of the room for all
 pub lists_room : {n : Needs} {l : Lengths} {E : EdgeColumns} {M : MutationColumns} → RoomFor n l → l.left ≡ length E.left → l.right ≡ length E.right → l.parent ≡ length E.parent → l.child ≡ length E.child → l.site ≡ length M.site → l.node ≡ length M.node → l.derived ≡ length M.derived → RoomForLists n.edges n.mutations E M
 lists_room r a b c d e f g = record { edges_few = r.edges_few; left = omega (arith, r.left); right = omega (arith, r.right); parent = omega (arith, r.parent); child = omega (arith, r.child); site = omega (arith, r.site); node = omega (arith, r.node); derived = omega (arith, r.derived) }
+
+-- edges written to columns that hold what is told of others are told of them
+pub lists_same : {new : Tables} {E E' : EdgeColumns} {M M' : MutationColumns} → ListsWritten new E E' M M' → {left right parent child : List ℕ} → left ≡ E'.left → right ≡ E'.right → parent ≡ E'.parent → child ≡ E'.child → ListsWritten new E (record { left = left; right = right; parent = parent; child = child }) M M'
+lists_same w a b c d = record { lefts = a ∙ w.lefts; rights = b ∙ w.rights; parents = c ∙ w.parents; children = d ∙ w.children; sites = w.sites; nodes = w.nodes; states = w.states }

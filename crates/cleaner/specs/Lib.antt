@@ -6,6 +6,7 @@ pub mod Planning
 pub mod Work
 pub mod Finishing
 pub mod Lists
+pub mod Out
 pub mod Reading
 pub mod Fitting
 pub mod Places

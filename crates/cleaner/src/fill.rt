@@ -1,6 +1,5 @@
 // The sweep's lists in the lent columns of the result: copied where the first sweep could keep them, else swept again.
 ghost use Rattle.std.specs.Prelude.{◌≡◌, List, ℕ, suc, ◌≤◌, length, take};
-ghost use Rattle.meaning.specs.Rows.{edge_table};
 ghost use Rattle.meaning.specs.Answer.{limits};
 ghost use Rattle.tree.specs.TreeAt.{Flags};
 ghost use Rattle.placing.specs.Placing.{Moves};
@@ -8,6 +7,7 @@ ghost use Rattle.runs.specs.Runs.{Store};
 ghost use Rattle.sweep.specs.Sweeping.{Done};
 ghost use Rattle.cleaner.specs.Sweeping.{Sweepable};
 ghost use Rattle.cleaner.specs.Finishing.{Fillable, Filled};
+ghost use Rattle.cleaner.specs.Out.{written_in, SameColumns, AsLong};
 ghost use Rattle.cleaner.specs.Work.{fronts_in, store_in, moves_in};
 
 use crate::first::FirstSweep;
@@ -24,10 +24,7 @@ fn again(
     edges: usize,
     mutations: usize,
     stood: &mut [u8],
-    out_left: &mut [u32],
-    out_right: &mut [u32],
-    out_parent: &mut [u32],
-    out_child: &mut [u32],
+    out: &mut EdgesOut,
     out_site: &mut [u32],
     out_node: &mut [u32],
 )
@@ -36,19 +33,21 @@ fn again(
         (length tables.edges.left.now ≤ length bl.now) ×
         (length tables.edges.left.now ≤ length br.now) ×
         (length tables.ages.time.now ≤ length stood.old) ×
-        (edges ≤ length out_left.old) ×
-        (edges ≤ length out_right.old) ×
-        (edges ≤ length out_parent.old) ×
-        (edges ≤ length out_child.old) ×
+        (edges ≤ length out.old.left.now) ×
+        (edges ≤ length out.old.right.now) ×
+        (edges ≤ length out.old.parent.now) ×
+        (edges ≤ length out.old.child.now) ×
         (mutations ≤ length out_site.old) ×
         (mutations ≤ length out_node.old) }
-    ensures { (Q : List ℕ) →
+    ensures same { SameColumns out.old out.new }
+    ensures long { AsLong out.old out.new }
+    ensures filled { (Q : List ℕ) →
         edges ≤ suc limits.edges →
         Flags (take (length tables.entry.ages.time.now) sample.now) Q (length tables.entry.ages.time.now) →
         Filled len
         (fronts_in tables.entry sample.now bl.now br.now)
-        Q edges mutations (edge_table out_left.old out_right.old out_parent.old out_child.old)
-        (edge_table out_left.new out_right.new out_parent.new out_child.new) out_site.old
+        Q edges mutations (written_in out.old)
+        (written_in out.new) out_site.old
         out_site.new out_node.old out_node.new }
 {
     let n = tables.ages.time.len();
@@ -59,10 +58,10 @@ fn again(
         &sample[..n],
         &bl[..e],
         &br[..e],
-        &mut out_left[..edges],
-        &mut out_right[..edges],
-        &mut out_parent[..edges],
-        &mut out_child[..edges],
+        &mut out.left[..edges],
+        &mut out.right[..edges],
+        &mut out.parent[..edges],
+        &mut out.child[..edges],
         &mut stood[..n],
         &mut out_site[..mutations],
         &mut out_node[..mutations],
@@ -78,10 +77,7 @@ pub fn fill(
     br: &[u32],
     first: FirstSweep,
     stood: &mut [u8],
-    out_left: &mut [u32],
-    out_right: &mut [u32],
-    out_parent: &mut [u32],
-    out_child: &mut [u32],
+    out: &mut EdgesOut,
     out_site: &mut [u32],
     out_node: &mut [u32],
 )
@@ -90,9 +86,11 @@ pub fn fill(
         (length tables.edges.left.now ≤ length bl.now) ×
         (length tables.edges.left.now ≤ length br.now) ×
         Fillable (length tables.ages.time.now) first.made first.moved stood.old
-        (edge_table out_left.old out_right.old out_parent.old out_child.old) out_site.old
+        (written_in out.old) out_site.old
         out_node.old }
-    ensures { (Q : List ℕ) (D : Store) (M : Moves) →
+    ensures same { SameColumns out.old out.new }
+    ensures long { AsLong out.old out.new }
+    ensures filled { (Q : List ℕ) (D : Store) (M : Moves) →
         Flags (take (length tables.entry.ages.time.now) sample.now) Q (length tables.entry.ages.time.now) →
         Done len
         (fronts_in tables.entry sample.now bl.now br.now)
@@ -101,18 +99,12 @@ pub fn fill(
         (moves_in first.entry) →
         Filled len
         (fronts_in tables.entry sample.now bl.now br.now)
-        Q first.entry.made first.entry.moved (edge_table out_left.old out_right.old out_parent.old out_child.old)
-        (edge_table out_left.new out_right.new out_parent.new out_child.new) out_site.old
+        Q first.entry.made first.entry.moved (written_in out.old)
+        (written_in out.new) out_site.old
         out_site.new out_node.old out_node.new }
 {
     if first.made <= first.edges.left.len() {
         if first.moved <= first.row.len() {
-            let mut out = EdgesOut {
-                left: out_left,
-                right: out_right,
-                parent: out_parent,
-                child: out_child,
-            };
             out.write(first.edges, first.made);
             writing::copy(first.row, first.moved, out_site);
             writing::copy(first.low, first.moved, out_node);
@@ -128,10 +120,7 @@ pub fn fill(
         first.made,
         first.moved,
         stood,
-        out_left,
-        out_right,
-        out_parent,
-        out_child,
+        out,
         out_site,
         out_node,
     );

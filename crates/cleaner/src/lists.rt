@@ -6,6 +6,7 @@ ghost use Rattle.cleaner.specs.Work.{Ready, whole_in, store_in, moves_in};
 ghost use Rattle.cleaner.specs.Lists.{RoomForLists, ListsWritten};
 
 use crate::first::FirstSweep;
+use crate::out::EdgesOut;
 use crate::{fill, finish};
 use meaning::columns::Tables;
 
@@ -63,22 +64,17 @@ pub fn write_lists(
         (record { site = out_site.old; node = out_node.old; derived = out_derived.old })
         (record { site = out_site.new; node = out_node.new; derived = out_derived.new }) }
 {
+    let mut out = EdgesOut {
+        left: out_left,
+        right: out_right,
+        parent: out_parent,
+        child: out_child,
+    };
     fill::fill(
-        len, tables, sample, bl, br, first, stood, out_left, out_right, out_parent, out_child,
-        out_site, out_node,
+        len, tables, sample, bl, br, first, stood, &mut out, out_site, out_node,
     );
-    finish::finish_edges(
-        tables.ages,
-        by_birth,
-        places,
-        first.made,
-        out_left,
-        out_right,
-        out_parent,
-        out_child,
-        bl,
-        br,
-    );
+    out.order(tables.ages, by_birth, first.made, bl, br);
+    out.finish(places, bl, first.made, br);
     finish::finish_mutations(
         places,
         tables.mutations,

@@ -1,12 +1,12 @@
 -- `cleaner::clean` meets its contract: the check's refusal, or the cleaning of sound tables.
-use Rattle.std.proofs.Common.{sym, ap, ◌∙◌}
+use Rattle.std.proofs.Common.{ap, ◌∙◌}
 use Rattle.laws.specs.Passing.{passed_on}
 use Rattle.meaning.specs.Lent.{Tabled}
 use Rattle.meaning.specs.Rows.{node_table, edge_table, site_table, mutation_table, tables}
 use Rattle.meaning.specs.Clean.{outcome_of}
 use Prim.Native.Nat.{ℕ}
 use lib.ListN.{length-replicate}
-use Rattle.cleaner.proofs.Calling.{grounded, shaped, births_room, call_refused, call_done}
+use Rattle.cleaner.proofs.Calling.{grounded, shaped, call_refused, call_done}
 use native.Mathlib.Omega.{arith}
 use Rattle.cleaner.proofs.clean.Goals as goal
 
@@ -25,15 +25,6 @@ invariant_of-even-3 c = record { even = record { ancestral_long = (shaped _ _ _ 
 pub invariant_of-even-4 : goal.invariant_of-even-4
 invariant_of-even-4 c = let s : _ = shaped _ _ _ _ c.check_all_lent.ensures.0 c.in_ok-check_all_lent.was in record { even = record { node_long = s.mutated; derived_long = s.derived } }
 
-pub slice_bounds-clean_sound-end : goal.slice_bounds-clean_sound-end
-slice_bounds-clean_sound-end c = sym (c.check_all_lent.auto.by_child ∙ length-replicate {A = ℕ} 4096 0)
-
-pub slice_bounds-by_birth-end : goal.slice_bounds-by_birth-end
-slice_bounds-by_birth-end c = births_room _ _ _ _ c.check_all_lent.ensures.0 c.in_ok-check_all_lent.was c.check_all_lent.new.by_birth _ (length-replicate {A = ℕ} 1024 0) c.check_all_lent.auto.by_birth
-
-pub slice_bounds-clean_sound-end-2 : goal.slice_bounds-clean_sound-end-2
-slice_bounds-clean_sound-end-2 c = sym (c.check_all_lent.ensures.1.births c.in_ok-check_all_lent.was).long
-
 pub clean_sound-requires : goal.clean_sound-requires
 clean_sound-requires c = (grounded _ _ _ _ c.check_all_lent.ensures.0 c.in_ok-check_all_lent.was (λ i l. omega (arith, c.type_inv.time i)), c.check_all_lent.ensures.1.births c.in_ok-check_all_lent.was, c.check_all_lent.auto.by_child ∙ length-replicate {A = ℕ} 4096 0)
 
@@ -41,45 +32,6 @@ pub returns-in_err-check_all_lent : goal.returns-in_err-check_all_lent
 returns-in_err-check_all_lent c =
     let out : _ = (tables (node_table c.args.out_time.now c.args.out_birth.now c.args.out_population.now) (edge_table c.args.out_left.now c.args.out_right.now c.args.out_parent.now c.args.out_child.now) (site_table c.args.out_position.now c.args.out_ancestral.now) (mutation_table c.args.out_site.now c.args.out_node.now c.args.out_derived.now)) in
     ap (λ (a : Tabled). outcome_of a out c.args.out_map.now) (passed_on c.from_residual.ensures.1) ∙ call_refused _ _ _ _ c.check_all_lent.ensures.0 out c.args.out_map.now c.args.cells _ c.in_err-check_all_lent.was
-
-pub shape_of-out_time : goal.shape_of-out_time
-shape_of-out_time c = c.clean_sound.auto.out_time
-
-pub shape_of-out_birth : goal.shape_of-out_birth
-shape_of-out_birth c = c.clean_sound.auto.out_birth
-
-pub shape_of-out_population : goal.shape_of-out_population
-shape_of-out_population c = c.clean_sound.auto.out_population
-
-pub shape_of-out_left : goal.shape_of-out_left
-shape_of-out_left c = c.clean_sound.auto.out_left
-
-pub shape_of-out_right : goal.shape_of-out_right
-shape_of-out_right c = c.clean_sound.auto.out_right
-
-pub shape_of-out_parent : goal.shape_of-out_parent
-shape_of-out_parent c = c.clean_sound.auto.out_parent
-
-pub shape_of-out_child : goal.shape_of-out_child
-shape_of-out_child c = c.clean_sound.auto.out_child
-
-pub shape_of-out_position : goal.shape_of-out_position
-shape_of-out_position c = c.clean_sound.auto.out_position
-
-pub shape_of-out_ancestral : goal.shape_of-out_ancestral
-shape_of-out_ancestral c = c.clean_sound.auto.out_ancestral
-
-pub shape_of-out_site : goal.shape_of-out_site
-shape_of-out_site c = c.clean_sound.auto.out_site
-
-pub shape_of-out_node : goal.shape_of-out_node
-shape_of-out_node c = c.clean_sound.auto.out_node
-
-pub shape_of-out_derived : goal.shape_of-out_derived
-shape_of-out_derived c = c.clean_sound.auto.out_derived
-
-pub shape_of-out_map : goal.shape_of-out_map
-shape_of-out_map c = c.clean_sound.auto.out_map
 
 pub returns : goal.returns
 returns c = call_done _ _ _ _ c.check_all_lent.ensures.0 _ _ _ c.in_ok-check_all_lent.was _ c.clean_sound.ensures

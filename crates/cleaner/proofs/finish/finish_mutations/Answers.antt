@@ -10,14 +10,5 @@ rename-requires c = c.requires.0
 pub rename-requires-2 : goal.rename-requires-2
 rename-requires-2 c = c.requires.1
 
-pub shape_of-out_site : goal.shape_of-out_site
-shape_of-out_site c = c.rename.auto.col
-
-pub shape_of-out_node : goal.shape_of-out_node
-shape_of-out_node c = c.rename-2.auto.col
-
-pub shape_of-out_derived : goal.shape_of-out_derived
-shape_of-out_derived c = c.gather.auto.out
-
 pub returns : goal.returns
 returns c = record { sites = c.rename.ensures; nodes = c.rename-2.ensures; states = c.gather.ensures 0 }

@@ -11,44 +11,8 @@ use lib.ListN.{length-replicate}
 use Rattle.cleaner.proofs.Storing.{nodes_ready, map_room, refused_after, done_after, room_left, lists_room}
 use Rattle.cleaner.proofs.sound.clean_sound.Goals as goal
 
-pub slice_bounds-work-end : goal.slice_bounds-work-end
-slice_bounds-work-end c = sym (length-replicate {A = ℕ} 1280 0)
-
-pub slice_bounds-work-end-2 : goal.slice_bounds-work-end-2
-slice_bounds-work-end-2 c = sym (length-replicate {A = ℕ} 1024 0)
-
-pub slice_bounds-work-end-3 : goal.slice_bounds-work-end-3
-slice_bounds-work-end-3 c = sym (length-replicate {A = ℕ} 1024 0)
-
-pub slice_bounds-work-end-4 : goal.slice_bounds-work-end-4
-slice_bounds-work-end-4 c = sym (length-replicate {A = ℕ} 4096 0)
-
-pub slice_bounds-work-end-5 : goal.slice_bounds-work-end-5
-slice_bounds-work-end-5 c = sym (length-replicate {A = ℕ} 4096 0)
-
-pub slice_bounds-work-end-6 : goal.slice_bounds-work-end-6
-slice_bounds-work-end-6 c = sym (length-replicate {A = ℕ} 4096 0)
-
-pub slice_bounds-work-end-7 : goal.slice_bounds-work-end-7
-slice_bounds-work-end-7 c = sym (length-replicate {A = ℕ} 4096 0)
-
-pub slice_bounds-work-end-8 : goal.slice_bounds-work-end-8
-slice_bounds-work-end-8 c = sym (length-replicate {A = ℕ} 4096 0)
-
-pub slice_bounds-work-end-9 : goal.slice_bounds-work-end-9
-slice_bounds-work-end-9 c = sym (length-replicate {A = ℕ} 1024 0)
-
-pub slice_bounds-work-end-10 : goal.slice_bounds-work-end-10
-slice_bounds-work-end-10 c = sym (length-replicate {A = ℕ} 512 0)
-
-pub slice_bounds-work-end-11 : goal.slice_bounds-work-end-11
-slice_bounds-work-end-11 c = sym (length-replicate {A = ℕ} 512 0)
-
 pub work-z-requires : goal.work-z-requires
 work-z-requires c = (record { population = _; ancestral = _; derived = _; footing = c.requires.0 }, (length-replicate {A = ℕ} 1280 0, length-replicate {A = ℕ} 1024 0, length-replicate {A = ℕ} 1024 0, c.requires.2, length-replicate {A = ℕ} 4096 0, refl, refl, refl, length-replicate {A = ℕ} 1024 0, refl), c.requires.1)
-
-pub shape_of-bl-in_err-check_room_and_block : goal.shape_of-bl-in_err-check_room_and_block
-shape_of-bl-in_err-check_room_and_block c = c.work-z.auto.bl
 
 pub returns-in_err-check_room_and_block : goal.returns-in_err-check_room_and_block
 returns-in_err-check_room_and_block c =
@@ -62,80 +26,17 @@ invariant_of-first c = record { even = record { right_long = c.work-z.auto.fr �
 pub invariant_of-first-2 : goal.invariant_of-first-2
 invariant_of-first-2 c = record { even = c.work-z.auto.mlow ∙ sym c.work-z.auto.mrow }
 
-pub slice_bounds-write_nodes-end : goal.slice_bounds-write_nodes-end
-slice_bounds-write_nodes-end c = sym (c.work-z.auto.kept ∙ length-replicate {A = ℕ} 1280 0)
-
 pub write_nodes-requires : goal.write_nodes-requires
 write_nodes-requires c = nodes_ready (c.work-z.ensures _ c.requires.0) refl (room_left _ _ _ (ap checked_of (sym c.in_ok-check_room_and_block.was) ∙ c.check_room_and_block.ensures))
 
 pub write_sites-requires : goal.write_sites-requires
 write_sites-requires c = ((room_left _ _ _ (ap checked_of (sym c.in_ok-check_room_and_block.was) ∙ c.check_room_and_block.ensures)).position, (room_left _ _ _ (ap checked_of (sym c.in_ok-check_room_and_block.was) ∙ c.check_room_and_block.ensures)).ancestral)
 
-pub slice_bounds-write_lists-end : goal.slice_bounds-write_lists-end
-slice_bounds-write_lists-end c = sym (c.work-z.auto.kept ∙ length-replicate {A = ℕ} 1280 0)
-
-pub slice_bounds-write_lists-end-2 : goal.slice_bounds-write_lists-end-2
-slice_bounds-write_lists-end-2 c = sym (c.work-z.auto.places ∙ length-replicate {A = ℕ} 1024 0)
-
-pub slice_bounds-write_lists-end-3 : goal.slice_bounds-write_lists-end-3
-slice_bounds-write_lists-end-3 c = sym (c.work-z.auto.sample ∙ length-replicate {A = ℕ} 1024 0)
-
-pub slice_bounds-write_lists-end-4 : goal.slice_bounds-write_lists-end-4
-slice_bounds-write_lists-end-4 c = sym (c.work-z.auto.br ∙ length-replicate {A = ℕ} 4096 0)
-
-pub slice_bounds-write_lists-end-5 : goal.slice_bounds-write_lists-end-5
-slice_bounds-write_lists-end-5 c = sym (c.work-z.auto.stood ∙ length-replicate {A = ℕ} 1024 0)
-
 pub write_lists-requires : goal.write_lists-requires
 write_lists-requires c = (c.work-z.ensures _ c.requires.0, c.requires.1, lists_room (room_left _ _ _ (ap checked_of (sym c.in_ok-check_room_and_block.was) ∙ c.check_room_and_block.ensures)) refl refl refl refl refl refl refl)
 
-pub slice_bounds-copy-end : goal.slice_bounds-copy-end
-slice_bounds-copy-end c = sym (c.work-z.auto.places ∙ length-replicate {A = ℕ} 1024 0)
-
 pub copy-requires : goal.copy-requires
 copy-requires c = (map_room (c.work-z.ensures _ c.requires.0), (room_left _ _ _ (ap checked_of (sym c.in_ok-check_room_and_block.was) ∙ c.check_room_and_block.ensures)).nodemap)
-
-pub shape_of-out_time : goal.shape_of-out_time
-shape_of-out_time c = c.write_nodes.auto.out_time
-
-pub shape_of-out_birth : goal.shape_of-out_birth
-shape_of-out_birth c = c.write_nodes.auto.out_birth
-
-pub shape_of-out_population : goal.shape_of-out_population
-shape_of-out_population c = c.write_nodes.auto.out_population
-
-pub shape_of-out_left : goal.shape_of-out_left
-shape_of-out_left c = c.write_lists.auto.out_left
-
-pub shape_of-out_right : goal.shape_of-out_right
-shape_of-out_right c = c.write_lists.auto.out_right
-
-pub shape_of-out_parent : goal.shape_of-out_parent
-shape_of-out_parent c = c.write_lists.auto.out_parent
-
-pub shape_of-out_child : goal.shape_of-out_child
-shape_of-out_child c = c.write_lists.auto.out_child
-
-pub shape_of-out_position : goal.shape_of-out_position
-shape_of-out_position c = c.write_sites.auto.out_position
-
-pub shape_of-out_ancestral : goal.shape_of-out_ancestral
-shape_of-out_ancestral c = c.write_sites.auto.out_ancestral
-
-pub shape_of-out_site : goal.shape_of-out_site
-shape_of-out_site c = c.write_lists.auto.out_site
-
-pub shape_of-out_node : goal.shape_of-out_node
-shape_of-out_node c = c.write_lists.auto.out_node
-
-pub shape_of-out_derived : goal.shape_of-out_derived
-shape_of-out_derived c = c.write_lists.auto.out_derived
-
-pub shape_of-out_map : goal.shape_of-out_map
-shape_of-out_map c = c.copy.auto.out
-
-pub shape_of-bl : goal.shape_of-bl
-shape_of-bl c = c.write_lists.auto.bl ∙ c.work-z.auto.bl
 
 pub returns : goal.returns
 returns c = done_after (c.work-z.ensures _ c.requires.0) _ _ _ (sym c.check_room_and_block.ensures ∙ ap checked_of c.in_ok-check_room_and_block.was) _ _ c.write_nodes.ensures.0 c.write_nodes.ensures.1 c.write_nodes.ensures.2 c.write_sites.ensures.0 c.write_sites.ensures.1 c.write_lists.ensures c.copy.ensures

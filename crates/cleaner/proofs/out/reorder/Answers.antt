@@ -1,21 +1,15 @@
--- `cleaner::finish::reorder` meets its contract: gathered in the spare column, and copied back.
+-- `cleaner::out::reorder` meets its contract: gathered in the spare column, and copied back.
 use Rattle.meaning.specs.Words.{at}
 use Rattle.cleaner.proofs.Storing.{inside_more}
 use Rattle.cleaner.proofs.Finishing.{copied_back}
 use native.Mathlib.Omega.{arith}
-use Rattle.cleaner.proofs.finish.reorder.Goals as goal
+use Rattle.cleaner.proofs.out.reorder.Goals as goal
 
 pub gather-requires : goal.gather-requires
 gather-requires c = (c.requires.0, c.requires.2, inside_more c.requires.1 c.requires.3)
 
 pub copy-requires : goal.copy-requires
 copy-requires c = (omega (arith, c.gather.auto.out, c.requires.2), c.requires.1)
-
-pub shape_of-col : goal.shape_of-col
-shape_of-col c = c.copy.auto.out
-
-pub shape_of-spare : goal.shape_of-spare
-shape_of-spare c = c.gather.auto.out
 
 pub returns : goal.returns
 returns c = copied_back (at c.args.col.now) c.args.order.now c.args.spare.now c.gather.new.out c.args.col.now c.copy.new.out c.args.k c.requires.0 (c.gather.ensures 0) c.copy.ensures
