@@ -23,7 +23,8 @@ use meaning::columns::{Ages, EdgeColumns, Lent, MutationColumns, SiteColumns, Ta
 use meaning::{Counts, EdgeTable, NodeTable, Refusal};
 
 // 01's cleaning call, the check of the tables and then the cleaning, for a caller whose block takes so many cells:
-// under four is 13, row 7, before anything is written.
+// under four is 13, row 7, before anything is written. It takes the columns one by one: that a time is below 2^32 is known of a slice that is
+// a parameter, not of one in a struct, and cleaning asks for it.
 pub fn clean<'a>(
     len: u32,
     time: &'a [u32],

@@ -6,7 +6,7 @@ ghost use Rattle.order.specs.Order.{Inside};
 
 use meaning::columns::{Ages, SiteColumns};
 
-// Table 1: the rows kept.
+// Table 1: the rows kept. The columns that are written stay apart, as C lends them.
 pub fn write_nodes(
     ages: Ages,
     population: &[u16],
