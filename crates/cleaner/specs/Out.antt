@@ -1,7 +1,7 @@
 -- The lent columns that take the edges of the result, before and after a function writes them.
 use Rattle.std.specs.Prelude.{◌≡◌, length}
 use Rattle.meaning.specs.Rows.{EdgeColumns, edge_table}
-use Rattle.cleaner.specs.declared.out.EdgesOut.{EdgesOut}
+use Rattle.cleaner.specs.declared.edges_out.EdgesOut.{EdgesOut}
 
 -- what they hold
 abbrev pub written_in : EdgesOut → EdgeColumns

@@ -10,8 +10,8 @@ ghost use Rattle.cleaner.specs.Finishing.{Fillable, Filled};
 ghost use Rattle.cleaner.specs.Out.{written_in, SameColumns, AsLong};
 ghost use Rattle.cleaner.specs.Work.{fronts_in, store_in, moves_in};
 
+use crate::edges_out::EdgesOut;
 use crate::first::FirstSweep;
-use crate::out::EdgesOut;
 use meaning::columns::Tables;
 
 // A sweep into the fronts of the lent columns, which finds no more than one edge past the limit.

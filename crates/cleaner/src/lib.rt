@@ -9,11 +9,11 @@ ghost use Rattle.meaning.specs.Forest.{stands};
 ghost use Rattle.meaning.specs.Answer.{limits};
 ghost use Rattle.meaning.specs.Clean.{outcome_of, cleaning};
 
+mod edges_out;
 mod fill;
 mod finish;
 mod first;
 mod lists;
-mod out;
 mod rank;
 mod sound;
 mod store;

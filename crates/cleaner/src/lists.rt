@@ -5,8 +5,8 @@ ghost use Rattle.order.specs.Ranks.{Ranked};
 ghost use Rattle.cleaner.specs.Work.{Ready, whole_in, store_in, moves_in};
 ghost use Rattle.cleaner.specs.Lists.{RoomForLists, ListsWritten};
 
+use crate::edges_out::EdgesOut;
 use crate::first::FirstSweep;
-use crate::out::EdgesOut;
 use crate::{fill, finish};
 use meaning::columns::Tables;
 

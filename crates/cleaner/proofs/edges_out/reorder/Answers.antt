@@ -3,7 +3,7 @@ use Rattle.meaning.specs.Words.{at}
 use Rattle.cleaner.proofs.Storing.{inside_more}
 use Rattle.cleaner.proofs.Finishing.{copied_back}
 use native.Mathlib.Omega.{arith}
-use Rattle.cleaner.proofs.out.reorder.Goals as goal
+use Rattle.cleaner.proofs.edges_out.reorder.Goals as goal
 
 pub gather-requires : goal.gather-requires
 gather-requires c = (c.requires.0, c.requires.2, inside_more c.requires.1 c.requires.3)

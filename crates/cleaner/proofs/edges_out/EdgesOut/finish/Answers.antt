@@ -2,7 +2,7 @@
 use Rattle.meaning.specs.Words.{at}
 use Rattle.writing.specs.Renamed.{renamed}
 use Rattle.cleaner.proofs.Finishing.{renamed_after}
-use Rattle.cleaner.proofs.out.EdgesOut.finish.Goals as goal
+use Rattle.cleaner.proofs.edges_out.EdgesOut.finish.Goals as goal
 
 pub returns-clause-finished : goal.returns-clause-finished
 returns-clause-finished c = (
