@@ -1,4 +1,4 @@
-// The rules 20 to 26 of 01's join, each as a search for the lowest row that breaks it; the number of rows where none does.
+// The rules 20 to 26 of 01's join, each as a search for the lowest row that breaks it, or none.
 // What a broken row is stands in the crate meaning, specs/Join.antt.
 
 #![tactic(auto)]
