@@ -47,7 +47,7 @@ fn child_from(len: u32, edges: EdgeColumns, from: u32, to: u32, x: u32, u: u32) 
 {
     let mut end = len;
     for e in from as usize..to as usize {
-        if missing::is_under(edges, x, u, e) {
+        if missing::is_under(edges.left, edges.right, edges.parent, x, u, e) {
             return Below {
                 has: true,
                 end: edges.right[e],

@@ -13,11 +13,11 @@ use meaning::columns::EdgeColumns;
 
 // Whether edge row e holds at x and has u as its parent.
 #[tactic(auto, unfolding(crate::specs::Alone::under_row))]
-pub fn is_under(edges: EdgeColumns, x: u32, u: u32, e: usize) -> bool
-    requires { e < length edges.left.now }
-    ensures { result ≡ under_row edges.entry.left.now edges.entry.right.now edges.entry.parent.now x u e }
+pub fn is_under(left: &[u32], right: &[u32], parent: &[u32], x: u32, u: u32, e: usize) -> bool
+    requires { (e < length left.now) × (e < length right.now) × (e < length parent.now) }
+    ensures { result ≡ under_row left.now right.now parent.now x u e }
 {
-    edges.parent[e] == u && edges.left[e] <= x && x < edges.right[e]
+    parent[e] == u && left[e] <= x && x < right[e]
 }
 
 // Whether row u has a child at x.
@@ -25,7 +25,7 @@ fn has_child(edges: EdgeColumns, x: u32, u: u32) -> bool
     ensures { result ≡ child_row edges.entry.left.now edges.entry.right.now edges.entry.parent.now x u }
 {
     for e in 0..edges.left.len() {
-        if is_under(edges, x, u, e) {
+        if is_under(edges.left, edges.right, edges.parent, x, u, e) {
             return true;
         }
     }

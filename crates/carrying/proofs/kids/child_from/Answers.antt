@@ -8,7 +8,12 @@ pub loop-e-init : goal.loop-e-init
 loop-e-init c = none_at_first c.args.edges.even.parent_long c.requires _
 
 pub is_under-requires : goal.is_under-requires
-is_under-requires c = omega (arith, c.loop-e-test.true, c.args.edges.even.parent_long, c.requires.inside)
+is_under-requires c =
+    let l : _ = c.args.edges.even in (
+      omega (arith, c.loop-e-test.true, l.parent_long, c.requires.inside),
+      omega (arith, c.loop-e-test.true, l.right_long, l.parent_long, c.requires.inside),
+      omega (arith, c.loop-e-test.true, c.requires.inside),
+    )
 
 pub bounds-edges-e : goal.bounds-edges-e
 bounds-edges-e c = omega (arith, c.loop-e-test.true, c.args.edges.even.right_long, c.args.edges.even.parent_long, c.requires.inside)
