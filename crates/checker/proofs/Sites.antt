@@ -4,9 +4,9 @@ use mathlib.Core.Bool.{Bool}
 use mathlib.Core.List.{List}
 use Prim.Native.Nat.{ℕ}
 use lib.ListN.{length}
-use Rattle.std.specs.Prelude.{Some, None}
+use Rattle.std.specs.Prelude.{Option, Some, None}
 use Rattle.meaning.specs.Words.{at, lowest_row, row_below}
-use Rattle.meaning.specs.Rows.{Tables, edges_of}
+use Rattle.meaning.specs.Rows.{EdgeColumns, MutationColumns, Tables, edges_of, mutation_table}
 use Rattle.meaning.specs.Answer.{Answer, answer, done, refuse_row}
 use Rattle.meaning.specs.Check.{site_broken, mutation_broken, mutation_above, site_rules}
 use Rattle.ancestry.specs.Column.{Rising}
@@ -15,6 +15,10 @@ use Rattle.overtaking.specs.Births.{first_above_births}
 use Rattle.checker.specs.Found.{Shaped, TreeSound}
 use Rattle.checker.proofs.Order.{row_found, row_none, none_found}
 use Rattle.checker.proofs.Rows.{rising, lined, apart}
+
+-- rule 10 found among the mutations by site is rule 10 of the tables, whose derived states it does not look at
+pub of_sites : (E : EdgeColumns) (position : List ℕ) (M : MutationColumns) {position' site node : List ℕ} {r : Option ℕ} → position' ≡ position → site ≡ M.site → node ≡ M.node → ((derived : List ℕ) → r ≡ lowest_row (mutation_above (edges_of (λ x. x) E) position' (λ x. x) (mutation_table site node derived)) (length site)) → r ≡ lowest_row (mutation_above (edges_of (λ x. x) E) position (λ x. x) M) (length M.site)
+of_sites E position M p s n h = let k : _ = h M.derived in rw (p, s, n) at k
 
 module _ (L : ℕ) (T : Tables) where
   abbrev position : List ℕ

@@ -11,6 +11,7 @@ ghost use Rattle.checker.specs.Evened.{LengthsTold};
 
 use meaning::columns::{Ages, EdgeColumns, Lent, Tables};
 use meaning::{Counts, Refusal, SampleTable};
+use overtaking::sites::BySite;
 
 // 1 and 2 on lengths alone: the tables where they refuse nothing.
 pub fn lengths_checked(lent: Lent) -> Result<Tables, Refusal>
@@ -78,7 +79,13 @@ pub fn sites_checked(len: u32, tables: Tables, by_child: &[u32]) -> Result<(), R
     ) {
         return Err(Refusal::MutationBroken(row));
     }
-    if let Some(row) = overtaking::first_above(len, tables, by_child) {
+    let mutations = BySite::new(
+        tables.ages.time,
+        position,
+        tables.mutations.site,
+        tables.mutations.node,
+    );
+    if let Some(row) = overtaking::first_above(len, tables.edges, mutations, by_child) {
         return Err(Refusal::MutationAbove(row));
     }
     Ok(())

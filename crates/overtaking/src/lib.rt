@@ -2,20 +2,20 @@
 
 #![tactic(auto)]
 
-ghost use Rattle.std.specs.Prelude.{◌≡◌, false, ℕ, ◌<◌, ◌≤◌, length};
+ghost use Rattle.std.specs.Prelude.{◌≡◌, false, List, ℕ, ◌<◌, ◌≤◌, length};
 ghost use Rattle.meaning.specs.Words.{lowest_row};
-ghost use Rattle.meaning.specs.Rows.{edges_of};
-ghost use Rattle.meaning.specs.Columns.{edges_in, mutations_in};
+ghost use Rattle.meaning.specs.Rows.{edges_of, mutation_table};
+ghost use Rattle.meaning.specs.Columns.{edges_in};
 ghost use Rattle.meaning.specs.Answer.{limits};
 ghost use Rattle.meaning.specs.Check.{edge_shared, mutation_above};
 ghost use Rattle.rules.specs.ByChild.{ByChild};
 ghost use Rattle.ancestry.specs.Column.{Rising};
 ghost use Rattle.ancestry.specs.Index.{Whole};
-ghost use Rattle.overtaking.specs.Overtaken.{Rightwards, Lined, overtaken_row};
+ghost use Rattle.overtaking.specs.Overtaken.{overtaken_row};
 
 use ancestry::edge_index::EdgeIndex;
 use meaning::NodeTable;
-use meaning::columns::{EdgeColumns, Tables};
+use meaning::columns::EdgeColumns;
 
 pub mod known; // answers of the lookup, kept
 pub mod sites; // the mutations by site: where a site's rows end, and whether they stand older first
@@ -26,26 +26,22 @@ use known::Kept;
 use sites::BySite;
 
 // 01's rule 10 by rows: the lowest mutation row whose node is a proper ancestor, at its site's position, of the node of an earlier
-// mutation at that site. Where each site's mutations stand older first there is nothing to look at.
-pub fn first_above(len: u32, tables: Tables, by_child: &[u32]) -> Option<usize>
-    requires { (length tables.ages.time.now ≤ limits.nodes) ×
-        (length tables.edges.left.now ≤ limits.edges) ×
-        (length tables.sites.position.now ≤ limits.sites) ×
-        Rising tables.ages.time.now (edges_in tables.edges) ×
-        Whole (edges_in tables.edges) len ×
-        ByChild (edges_in tables.edges) by_child.now ×
-        Rightwards tables.sites.position.now ×
-        Lined (length tables.sites.position.now) (length tables.ages.time.now) tables.mutations.site.now tables.mutations.node.now }
-    ensures { result
-        ≡ lowest_row (mutation_above (edges_of (λ x. x) (edges_in tables.entry.edges)) tables.entry.sites.position.now (λ x. x)
-        (mutations_in tables.entry.mutations)) (length tables.entry.mutations.site.now) }
+// mutation at that site, whatever the derived states are. Where each site's mutations stand older first there is nothing to look at.
+pub fn first_above(
+    len: u32,
+    edges: EdgeColumns,
+    mutations: BySite,
+    by_child: &[u32],
+) -> Option<usize>
+    requires { (length mutations.time.now ≤ limits.nodes) ×
+        (length edges.left.now ≤ limits.edges) ×
+        Rising mutations.time.now (edges_in edges) ×
+        Whole (edges_in edges) len ×
+        ByChild (edges_in edges) by_child.now }
+    ensures { (derived : List ℕ) → result
+        ≡ lowest_row (mutation_above (edges_of (λ x. x) (edges_in edges.entry)) mutations.entry.position.now (λ x. x)
+        (mutation_table mutations.entry.site.now mutations.entry.node.now derived)) (length mutations.entry.site.now) }
 {
-    let mutations = BySite::new(
-        tables.ages.time,
-        tables.sites.position,
-        tables.mutations.site,
-        tables.mutations.node,
-    );
     if !mutations.some_younger_first() {
         return None;
     }
@@ -53,10 +49,10 @@ pub fn first_above(len: u32, tables: Tables, by_child: &[u32]) -> Option<usize>
     let mut par = [0u32; NodeTable::MOST];
     let mut until = [0u32; NodeTable::MOST];
     let mut stamps = [0u32; NodeTable::MOST];
-    ancestry::index::fill_ends(tables.edges, by_child, &mut ends);
+    ancestry::index::fill_ends(edges, by_child, &mut ends);
     let index = EdgeIndex {
         len,
-        edges: tables.edges,
+        edges,
         by_child,
         ends: &ends,
     };
