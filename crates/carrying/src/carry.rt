@@ -3,6 +3,7 @@
 ghost use Rattle.std.specs.Prelude.{◌≡◌, ◌<◌, length};
 ghost use Rattle.meaning.specs.Columns.{edges_in};
 ghost use Rattle.overtaking.specs.Known.{Known};
+ghost use Rattle.overtaking.specs.Same.{SameKept};
 ghost use Rattle.carrying.specs.Told.{Upwards, Found, ToldUp, Carried};
 
 use ancestry::ParentColumn;
@@ -26,6 +27,7 @@ fn find(
         (u0 < length time.now) }
     ensures found { Found (edges_in index.entry.edges) x (length time.now) other t told.now state.now u0 result }
     ensures known { Known (edges_in index.entry.edges) x kept.new.par.now kept.new.until.now }
+    ensures same { SameKept kept.old kept.new }
     ensures long { length kept.new.par.now ≡ length kept.old.par.now }
 {
     let mut u = u0;
@@ -56,6 +58,7 @@ fn tell_up(
         (u0 < length time.now) }
     ensures told { ToldUp (edges_in index.entry.edges) x (length time.now) t s u0 told.old state.old told.new state.new }
     ensures known { Known (edges_in index.entry.edges) x kept.new.par.now kept.new.until.now }
+    ensures same { SameKept kept.old kept.new }
     ensures long { length kept.new.par.now ≡ length kept.old.par.now }
 {
     let mut u = u0;
@@ -87,6 +90,7 @@ pub fn carried(
         (u < length time.now) }
     ensures carried { Carried (edges_in index.entry.edges) x (length time.now) other t u told.old state.old result told.new state.new }
     ensures known { Known (edges_in index.entry.edges) x kept.new.par.now kept.new.until.now }
+    ensures same { SameKept kept.old kept.new }
     ensures long { length kept.new.par.now ≡ length kept.old.par.now }
 {
     let s = find(index, time, x, t, other, kept, told, state, u);

@@ -3,7 +3,9 @@ ghost use Rattle.std.specs.Prelude.{◌≡◌, ℕ, ◌<◌, ◌≤◌, eqb, len
 ghost use Rattle.meaning.specs.Words.{at};
 ghost use Rattle.meaning.specs.Columns.{edges_in};
 ghost use Rattle.overtaking.specs.Known.{Known};
+ghost use Rattle.overtaking.specs.Same.{SameKept};
 ghost use Rattle.carrying.specs.Kids.{KidsKnown};
+ghost use Rattle.carrying.specs.Same.{SameKids};
 ghost use Rattle.carrying.specs.Column.{missing_by, Asking, Ready, RowTold, RowsTold};
 
 use crate::kids::Kids;
@@ -32,6 +34,8 @@ fn is_missing(
     ensures answer { result ≡ missing_by (edges_in index.entry.edges) x (eqb (at own.now u) t) u }
     ensures known { Known (edges_in index.entry.edges) x kept.new.par.now kept.new.until.now }
     ensures kids { KidsKnown (edges_in index.entry.edges) x kids.new.has.now kids.new.until.now }
+    ensures same { SameKept kept.old kept.new }
+    ensures kids_same { SameKids kids.old kids.new }
     ensures long { length kept.new.par.now ≡ length kept.old.par.now }
     ensures kids_long { length kids.new.has.now ≡ length kids.old.has.now }
 {
@@ -70,6 +74,8 @@ fn tell_row(
         result told.new state.new }
     ensures known { Known (edges_in index.entry.edges) x kept.new.par.now kept.new.until.now }
     ensures kids { KidsKnown (edges_in index.entry.edges) x kids.new.has.now kids.new.until.now }
+    ensures same { SameKept kept.old kept.new }
+    ensures kids_same { SameKids kids.old kids.new }
     ensures long { length kept.new.par.now ≡ length kept.old.par.now }
     ensures kids_long { length kids.new.has.now ≡ length kids.old.has.now }
 {
@@ -109,6 +115,8 @@ pub fn tell_rows(
         states.new flags.new told.new state.new }
     ensures known { Known (edges_in index.entry.edges) x kept.new.par.now kept.new.until.now }
     ensures kids { KidsKnown (edges_in index.entry.edges) x kids.new.has.now kids.new.until.now }
+    ensures same { SameKept kept.old kept.new }
+    ensures kids_same { SameKids kids.old kids.new }
     ensures long { length kept.new.par.now ≡ length kept.old.par.now }
     ensures kids_long { length kids.new.has.now ≡ length kids.old.has.now }
 {

@@ -1,7 +1,9 @@
 // What a new site begins with: a stamp that no row has, and answers that hold from its position on.
 ghost use Rattle.std.specs.Prelude.{◌≡◌, ℕ, ◌≤◌};
 ghost use Rattle.meaning.specs.Words.{at};
+ghost use Rattle.overtaking.specs.Same.{SameKept};
 ghost use Rattle.carrying.specs.Fresh.{Unstamped, Forgotten};
+ghost use Rattle.carrying.specs.Same.{SameKids};
 
 use crate::kids::Kids;
 use overtaking::known::Kept;
@@ -24,6 +26,8 @@ pub fn forget(x: u32, last: u32, kept: &mut Kept, kids: &mut Kids)
     ensures ends { Forgotten x last kept.old.until.now kids.old.until.now kept.new.until.now kids.new.until.now }
     ensures par { kept.new.par.now ≡ kept.old.par.now }
     ensures has { kids.new.has.now ≡ kids.old.has.now }
+    ensures same { SameKept kept.old kept.new }
+    ensures kids_same { SameKids kids.old kids.new }
 {
     if last <= x {
         return;

@@ -59,6 +59,8 @@ fn child_from(len: u32, edges: EdgeColumns, from: u32, to: u32, x: u32, u: u32) 
 }
 
 impl Kids<'_> {
+    ghost use Rattle.carrying.specs.Same.{SameKids};
+
     // Whether row u has a child at x: the answer kept while it holds, and else a new one.
     pub fn child(
         &mut self,
@@ -75,6 +77,7 @@ impl Kids<'_> {
             KidsKnown (edges_in edges) x self.old.has.now self.old.until.now }
         ensures answer { result ≡ child_row edges.entry.left.now edges.entry.right.now edges.entry.parent.now x u }
         ensures known { KidsKnown (edges_in edges.entry) x self.new.has.now self.new.until.now }
+        ensures same { SameKids self.old self.new }
         ensures long { length self.new.has.now ≡ length self.old.has.now }
     {
         let i = u as usize;

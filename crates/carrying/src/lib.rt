@@ -6,8 +6,10 @@
 ghost use Rattle.std.specs.Prelude.{◌≡◌, ℕ, ◌<◌, ◌≤◌, length};
 ghost use Rattle.meaning.specs.Words.{at};
 ghost use Rattle.meaning.specs.Columns.{tables_in};
+ghost use Rattle.overtaking.specs.Same.{SameKept};
 ghost use Rattle.carrying.specs.Cells.{ColumnAt};
 ghost use Rattle.carrying.specs.Lent.{IsPrepared, work_in, KeptAt};
+ghost use Rattle.carrying.specs.Same.{SameKids};
 
 pub mod spans; // where the rows that name a number lie
 pub mod kids; // whether a row has a child, kept up to where that changes
@@ -67,6 +69,10 @@ pub fn tell_site(
         ((j : ℕ) → j < k → at rows.now j < length filled.tables.ages.time.now) }
     ensures column { ColumnAt (tables_in filled.entry.tables) i k rows.now states.new flags.new }
     ensures kept { KeptAt (tables_in filled.entry.tables) result (work_in kept.new kids.new own.new told.new state.new) }
+    ensures same { SameKept kept.old kept.new }
+    ensures kids_same { SameKids kids.old kids.new }
+    ensures long { length kept.new.par.now ≡ length kept.old.par.now }
+    ensures kids_long { length kids.new.has.now ≡ length kids.old.has.now }
     ensures last { result.last ≡ at filled.entry.tables.sites.position.now i }
 {
     let at = i as usize;

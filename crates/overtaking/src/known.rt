@@ -15,6 +15,8 @@ pub struct Kept<'a> {
 }
 
 impl Kept<'_> {
+    ghost use Rattle.overtaking.specs.Same.{SameKept};
+
     // The parent row of row u at x, or none: the answer kept while it holds, and else a new one.
     pub fn parent(&mut self, index: EdgeIndex, x: u32, u: u32) -> u32
         requires { (u < length index.ends.now) ×
@@ -22,6 +24,7 @@ impl Kept<'_> {
             Known (edges_in index.edges) x self.old.par.now self.old.until.now }
         ensures answer { result ≡ code (parent_row (edges_in index.entry.edges) x u) }
         ensures known { Known (edges_in index.entry.edges) x self.new.par.now self.new.until.now }
+        ensures same { SameKept self.old self.new }
         ensures long { length self.new.par.now ≡ length self.old.par.now }
     {
         let i = u as usize;

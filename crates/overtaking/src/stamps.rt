@@ -5,6 +5,7 @@ ghost use Rattle.meaning.specs.Words.{at, lowest_row};
 ghost use Rattle.meaning.specs.Columns.{edges_in};
 ghost use Rattle.bridge.specs.Parents.{parent_row};
 ghost use Rattle.overtaking.specs.Known.{Known, Keeping};
+ghost use Rattle.overtaking.specs.Same.{SameKept};
 ghost use Rattle.overtaking.specs.Stamps.{Stampable, StampedUp};
 ghost use Rattle.overtaking.specs.Overtaken.{overtaken, overtaken_row, Working, Going, Gone};
 
@@ -30,6 +31,7 @@ fn stamp_up(
         Known (edges_in index.edges) x kept.old.par.now kept.old.until.now }
     ensures stamped { StampedUp (parent_row (edges_in index.entry.edges) x) (at time.now) t bound u0 stamps.old stamps.new }
     ensures known { Known (edges_in index.entry.edges) x kept.new.par.now kept.new.until.now }
+    ensures same { SameKept kept.old kept.new }
     ensures long { length kept.new.par.now ≡ length kept.old.par.now }
 {
     let mut u = u0;
@@ -51,6 +53,7 @@ fn stamp_above(index: EdgeIndex, mutations: BySite, i: usize, kept: &mut Kept, s
         kept.old.par.now kept.old.until.now stamps.old }
     ensures gone { Gone mutations.entry.time.now (edges_in index.entry.edges) mutations.entry.position.now mutations.entry.site.now
         mutations.entry.node.now i kept.new.par.now kept.new.until.now stamps.new }
+    ensures same { SameKept kept.old kept.new }
     ensures long { length kept.new.par.now ≡ length kept.old.par.now }
 {
     if mutations.ends_site(i) {
@@ -85,6 +88,7 @@ fn overtakes(
         ≡ overtaken (edges_in index.entry.edges) mutations.entry.position.now mutations.entry.site.now mutations.entry.node.now i }
     ensures gone { Gone mutations.entry.time.now (edges_in index.entry.edges) mutations.entry.position.now mutations.entry.site.now
         mutations.entry.node.now i kept.new.par.now kept.new.until.now stamps.new }
+    ensures same { SameKept kept.old kept.new }
     ensures long { length kept.new.par.now ≡ length kept.old.par.now }
 {
     let hit = stamps[mutations.node[i] as usize] == mutations.site[i] + 1;
@@ -102,9 +106,11 @@ pub fn lowest_above(
     requires { Working mutations.time.now (edges_in index.edges) index.ends.now kept.old.par.now stamps.old ×
         ((u : ℕ) → at kept.old.until.now u ≡ 0) ×
         ((u : ℕ) → at stamps.old u ≡ 0) }
-    ensures { result
+    ensures answer { result
         ≡ lowest_row (overtaken (edges_in index.entry.edges) mutations.entry.position.now mutations.entry.site.now mutations.entry.node.now)
         (length mutations.entry.site.now) }
+    ensures same { SameKept kept.old kept.new }
+    ensures long { length kept.new.par.now ≡ length kept.old.par.now }
 {
     for i in 0..mutations.site.len() {
         if overtakes(index, mutations, i, kept, stamps) {
@@ -126,9 +132,11 @@ pub fn least_above(
         (length row.now ≡ length mutations.site.now) ×
         ((u : ℕ) → at kept.old.until.now u ≡ 0) ×
         ((u : ℕ) → at stamps.old u ≡ 0) }
-    ensures { result
+    ensures answer { result
         ≡ lowest_row (overtaken_row (edges_in index.entry.edges) mutations.entry.position.now mutations.entry.site.now
         mutations.entry.node.now row.now) (length mutations.entry.site.now) }
+    ensures same { SameKept kept.old kept.new }
+    ensures long { length kept.new.par.now ≡ length kept.old.par.now }
 {
     let mut least = mutations.site.len();
     for i in 0..mutations.site.len() {

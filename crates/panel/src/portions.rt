@@ -3,8 +3,10 @@ ghost use Rattle.std.specs.Prelude.{◌≡◌, true, ℕ, ◌+◌, ◌*◌, ◌<
 ghost use Rattle.meaning.specs.Words.{at, mem};
 ghost use Rattle.meaning.specs.Columns.{tables_in};
 ghost use Rattle.order.specs.Ranks.{Ranked};
+ghost use Rattle.overtaking.specs.Same.{SameKept};
 ghost use Rattle.carrying.specs.Work.{Kept};
 ghost use Rattle.carrying.specs.Lent.{IsPrepared, work_in, KeptAt};
+ghost use Rattle.carrying.specs.Same.{SameKids};
 ghost use Rattle.blocks.specs.Block.{SitesWritten, FishWritten};
 ghost use Rattle.blocks.specs.Lists.{AllThere};
 ghost use Rattle.panel.specs.Rows.{state_byte, flag_byte};
@@ -66,6 +68,10 @@ fn fill_portion(
     ensures flags { SitesWritten (flag_byte (tables_in filled.entry.tables) sites.now fish.now) (length sites.now) base k (length sites.now)
         flags.old flags.new }
     ensures kept { KeptAt (tables_in filled.entry.tables) result (work_in kept.new kids.new own.new told.new state.new) }
+    ensures same { SameKept kept.old kept.new }
+    ensures kids_same { SameKids kids.old kids.new }
+    ensures long { length kept.new.par.now ≡ length kept.old.par.now }
+    ensures kids_long { length kids.new.has.now ≡ length kids.old.has.now }
 {
     let mut reached = trail;
     for j in 0..sites.len() {
@@ -104,8 +110,12 @@ pub fn fill_fish(
         (1024 ≤ length gaps.old) ×
         (length fish.now * length sites.now ≤ length states.old) ×
         (length fish.now * length sites.now ≤ length flags.old) }
-    ensures { FishWritten (state_byte (tables_in filled.entry.tables) sites.now fish.now) (length sites.now) (length fish.now) states.old states.new ×
+    ensures written { FishWritten (state_byte (tables_in filled.entry.tables) sites.now fish.now) (length sites.now) (length fish.now) states.old states.new ×
         FishWritten (flag_byte (tables_in filled.entry.tables) sites.now fish.now) (length sites.now) (length fish.now) flags.old flags.new }
+    ensures same { SameKept kept.old kept.new }
+    ensures kids_same { SameKids kids.old kids.new }
+    ensures long { length kept.new.par.now ≡ length kept.old.par.now }
+    ensures kids_long { length kids.new.has.now ≡ length kids.old.has.now }
 {
     let mut trail = Trail { last: 0, stamp: 0 };
     let mut base = 0;

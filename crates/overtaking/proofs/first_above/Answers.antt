@@ -34,4 +34,4 @@ lowest_above-requires c = (
 )
 
 pub returns : goal.returns
-returns c = let m = c.args.mutations in of_rows _ m.position.now m.site.now m.node.now c.lowest_above.ensures
+returns c = let m = c.args.mutations in of_rows _ m.position.now m.site.now m.node.now c.lowest_above.ensures.answer

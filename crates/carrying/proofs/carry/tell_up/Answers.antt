@@ -1,12 +1,12 @@
 -- `tell_up` meets its contract: the rows gone over are told what they carry.
-use mathlib.Core.Path.{refl}
+use mathlib.Core.Path.{refl, ◌∙◌}
 use lib.ListN.{length-set}
 use Rattle.carrying.proofs.Telling.{a_parent, parent_in-is, parent_falls, pass_start, pass_end, pass_top, pass_on}
 use native.Mathlib.Omega.{arith}
 use Rattle.carrying.proofs.carry.tell_up.Goals as goal
 
 pub loop-told-init : goal.loop-told-init
-loop-told-init c = record { long = refl; passing = pass_start c.requires.2; known = c.requires.1 }
+loop-told-init c = record { same = (refl, refl); long = refl; passing = pass_start c.requires.2; known = c.requires.1 }
 
 pub bounds-told-u : goal.bounds-told-u
 bounds-told-u c = omega (arith, c.loop-told.invariant.passing.row, c.requires.0.told_long, c.loop-told.invariant.passing.told_long)
@@ -28,6 +28,7 @@ loop-told-smaller c = parent_falls c.requires.0.rising c.requires.0.few _ _ _ c.
 
 pub loop-told-preserved : goal.loop-told-preserved
 loop-told-preserved c = record {
+  same = (c.parent-p.ensures.same.0 ∙ c.loop-told.invariant.same.0, c.parent-p.ensures.same.1 ∙ c.loop-told.invariant.same.1);
   long = omega (arith, c.parent-p.ensures.long, c.loop-told.invariant.long);
   passing = pass_on c.loop-told.invariant.passing (omega (arith, c.loop-told.invariant.passing.row, c.requires.0.told_long, c.loop-told.invariant.passing.told_long)) (omega (arith, c.loop-told.invariant.passing.row, c.requires.0.state_long, c.loop-told.invariant.passing.state_long)) c.loop-told-test.true (parent_in-is c.requires.0.rising c.requires.0.few _ _ _ c.parent-p.ensures.answer c.if-p.false) (a_parent c.requires.0.rising c.requires.0.few _ _ _ c.parent-p.ensures.answer c.if-p.false);
   known = c.parent-p.ensures.known;

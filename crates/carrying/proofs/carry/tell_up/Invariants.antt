@@ -4,11 +4,13 @@ use lib.ListN.{length}
 use Rattle.meaning.specs.Columns.{edges_in}
 use Rattle.ancestry.specs.Column.{older}
 use Rattle.overtaking.specs.Known.{Known}
+use Rattle.overtaking.specs.Same.{SameKept}
 use Rattle.carrying.proofs.Telling.{Passing}
 use Rattle.carrying.proofs.carry.tell_up.Given as goal
 
 abbrev pub invariant-loop-told : goal.invariant-loop-told
 invariant-loop-told l = record {
+  same : SameKept l.initial.kept l.kept;
   long : length l.kept.par.now ≡ length l.initial.kept.par.now;
   passing : Passing (edges_in l.index.edges) l.x (length l.time) l.t l.s l.u0 l.initial.told l.initial.state l.told l.state l.u;
   known : Known (edges_in l.index.edges) l.x l.kept.par.now l.kept.until.now;

@@ -6,7 +6,7 @@ use native.Mathlib.Omega.{arith}
 use Rattle.carrying.proofs.column.tell_rows.Goals as goal
 
 pub loop-j-init : goal.loop-j-init
-loop-j-init c = record { long = refl; kids_long = refl; told_long = refl; state_long = refl; states_long = refl; flags_long = refl; known = c.requires.1; kids = c.requires.2; rows = none_told }
+loop-j-init c = record { same = (refl, refl); kids_same = (refl, refl); long = refl; kids_long = refl; told_long = refl; state_long = refl; states_long = refl; flags_long = refl; known = c.requires.1; kids = c.requires.2; rows = none_told }
 
 pub bounds-rows-j : goal.bounds-rows-j
 bounds-rows-j c = omega (arith, c.loop-j-test.true, c.requires.3)
@@ -22,6 +22,8 @@ bounds-flags-j c = omega (arith, c.loop-j-test.true, c.requires.5, c.loop-j.inva
 
 pub loop-j-preserved : goal.loop-j-preserved
 loop-j-preserved c = record {
+  same = (c.tell_row-carried.ensures.same.0 ∙ c.loop-j.invariant.same.0, c.tell_row-carried.ensures.same.1 ∙ c.loop-j.invariant.same.1);
+  kids_same = (c.tell_row-carried.ensures.kids_same.0 ∙ c.loop-j.invariant.kids_same.0, c.tell_row-carried.ensures.kids_same.1 ∙ c.loop-j.invariant.kids_same.1);
   long = c.tell_row-carried.ensures.long ∙ c.loop-j.invariant.long;
   kids_long = c.tell_row-carried.ensures.kids_long ∙ c.loop-j.invariant.kids_long;
   told_long = c.tell_row-carried.auto.told ∙ c.loop-j.invariant.told_long;

@@ -3,12 +3,16 @@ use mathlib.Core.Path.{◌≡◌}
 use lib.ListN.{length}
 use Rattle.meaning.specs.Columns.{edges_in}
 use Rattle.overtaking.specs.Known.{Known}
+use Rattle.overtaking.specs.Same.{SameKept}
 use Rattle.carrying.specs.Kids.{KidsKnown}
+use Rattle.carrying.specs.Same.{SameKids}
 use Rattle.carrying.specs.Column.{RowsTold}
 use Rattle.carrying.proofs.column.tell_rows.Given as goal
 
 abbrev pub invariant-loop-j : goal.invariant-loop-j
 invariant-loop-j l = record {
+  same : SameKept l.initial.kept l.kept;
+  kids_same : SameKids l.initial.kids l.kids;
   long : length l.kept.par.now ≡ length l.initial.kept.par.now;
   kids_long : length l.kids.has.now ≡ length l.initial.kids.has.now;
   told_long : length l.told ≡ length l.initial.told;

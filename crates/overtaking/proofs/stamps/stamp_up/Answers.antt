@@ -1,4 +1,5 @@
 -- `stamp_up` meets its contract: each step up is a law of Stamping, and the number of older rows falls.
+use mathlib.Core.Path.{◌∙◌}
 use Rattle.overtaking.proofs.Stamping.{climb_reached, climb_top, climb_in, climb_falls, climb_met, climb_on}
 use native.Mathlib.Omega.{arith}
 use Rattle.overtaking.proofs.stamps.stamp_up.Goals.{then-p-via-then-p, then-p-via-else-p+then-stamps-p}
@@ -21,6 +22,7 @@ loop-u-smaller c = climb_falls c.loop-u.invariant.climbing _ c.parent-p.ensures.
 
 pub loop-u-preserved : goal.loop-u-preserved
 loop-u-preserved c = record {
+  same = (c.parent-p.ensures.same.0 ∙ c.loop-u.invariant.same.0, c.parent-p.ensures.same.1 ∙ c.loop-u.invariant.same.1);
   long = omega (arith, c.parent-p.ensures.long, c.loop-u.invariant.long);
   climbing = climb_on c.loop-u.invariant.climbing _ c.parent-p.ensures.answer c.if-p.false (λ i. omega (arith, c.type_inv.time i));
   known = c.parent-p.ensures.known;

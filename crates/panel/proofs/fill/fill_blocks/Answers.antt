@@ -12,4 +12,4 @@ pub fill_fish-requires : goal.fill_fish-requires
 fill_fish-requires c = (c.prepare.ensures, c.requires.4, nothing_kept _ c.requires.0.few, c.requires.5, omega arith, omega arith, omega arith, c.requires.6, c.requires.7)
 
 pub returns : goal.returns
-returns c = c.fill_fish.ensures
+returns c = c.fill_fish.ensures.written

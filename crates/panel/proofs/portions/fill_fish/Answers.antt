@@ -8,6 +8,10 @@ use Rattle.panel.proofs.portions.fill_fish.Goals as goal
 
 pub loop-base-init : goal.loop-base-init
 loop-base-init c = record {
+  same = (refl, refl);
+  kids_same = (refl, refl);
+  long = refl;
+  kids_long = refl;
   own_long = refl;
   told_long = refl;
   state_long = refl;
@@ -50,6 +54,10 @@ loop-base-smaller c = omega (arith, c.loop-base-test.true, c.min-k.ensures)
 
 pub loop-base-preserved : goal.loop-base-preserved
 loop-base-preserved c = record {
+  same = (c.fill_portion-trail.ensures.same.0 ∙ c.loop-base.invariant.same.0, c.fill_portion-trail.ensures.same.1 ∙ c.loop-base.invariant.same.1);
+  kids_same = (c.fill_portion-trail.ensures.kids_same.0 ∙ c.loop-base.invariant.kids_same.0, c.fill_portion-trail.ensures.kids_same.1 ∙ c.loop-base.invariant.kids_same.1);
+  long = c.fill_portion-trail.ensures.long ∙ c.loop-base.invariant.long;
+  kids_long = c.fill_portion-trail.ensures.kids_long ∙ c.loop-base.invariant.kids_long;
   own_long = c.fill_portion-trail.auto.own ∙ c.loop-base.invariant.own_long;
   told_long = c.fill_portion-trail.auto.told ∙ c.loop-base.invariant.told_long;
   state_long = c.fill_portion-trail.auto.state ∙ c.loop-base.invariant.state_long;
@@ -81,5 +89,5 @@ shape_of-states c = c.loop-base.invariant.taken.states_done.long
 pub shape_of-flags : goal.shape_of-flags
 shape_of-flags c = c.loop-base.invariant.taken.flags_done.long
 
-pub returns : goal.returns
-returns c = (fish_all _ _ _ _ _ _ c.loop-base.invariant.taken.few c.loop-base-test.false c.loop-base.invariant.taken.states_done, fish_all _ _ _ _ _ _ c.loop-base.invariant.taken.few c.loop-base-test.false c.loop-base.invariant.taken.flags_done)
+pub returns-clause-written : goal.returns-clause-written
+returns-clause-written c = (fish_all _ _ _ _ _ _ c.loop-base.invariant.taken.few c.loop-base-test.false c.loop-base.invariant.taken.states_done, fish_all _ _ _ _ _ _ c.loop-base.invariant.taken.few c.loop-base-test.false c.loop-base.invariant.taken.flags_done)

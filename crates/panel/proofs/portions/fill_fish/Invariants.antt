@@ -3,12 +3,18 @@ use mathlib.Core.Path.{◌≡◌}
 use Prim.Native.Nat.{◌-◌}
 use lib.ListN.{length}
 use Rattle.meaning.specs.Columns.{tables_in}
+use Rattle.overtaking.specs.Same.{SameKept}
 use Rattle.carrying.specs.Lent.{work_in}
+use Rattle.carrying.specs.Same.{SameKids}
 use Rattle.panel.proofs.Taking.{Taken}
 use Rattle.panel.proofs.portions.fill_fish.Given as goal
 
 abbrev pub invariant-loop-base : goal.invariant-loop-base
 invariant-loop-base l = record {
+  same : SameKept l.initial.kept l.kept;
+  kids_same : SameKids l.initial.kids l.kids;
+  long : length l.kept.par.now ≡ length l.initial.kept.par.now;
+  kids_long : length l.kids.has.now ≡ length l.initial.kids.has.now;
   own_long : length l.own ≡ length l.initial.own;
   told_long : length l.told ≡ length l.initial.told;
   state_long : length l.state ≡ length l.initial.state;

@@ -7,6 +7,10 @@ use Rattle.panel.proofs.portions.fill_portion.Goals as goal
 
 pub loop-j-init : goal.loop-j-init
 loop-j-init c = record {
+  same = (refl, refl);
+  kids_same = (refl, refl);
+  long = refl;
+  kids_long = refl;
   own_long = refl;
   told_long = refl;
   state_long = refl;
@@ -30,6 +34,10 @@ scatter-requires-in-loop-j c = (omega (arith, c.requires.7, c.loop-j.invariant.t
 
 pub loop-j-preserved : goal.loop-j-preserved
 loop-j-preserved c = record {
+  same = (c.tell_site-reached.ensures.same.0 ∙ c.loop-j.invariant.same.0, c.tell_site-reached.ensures.same.1 ∙ c.loop-j.invariant.same.1);
+  kids_same = (c.tell_site-reached.ensures.kids_same.0 ∙ c.loop-j.invariant.kids_same.0, c.tell_site-reached.ensures.kids_same.1 ∙ c.loop-j.invariant.kids_same.1);
+  long = c.tell_site-reached.ensures.long ∙ c.loop-j.invariant.long;
+  kids_long = c.tell_site-reached.ensures.kids_long ∙ c.loop-j.invariant.kids_long;
   own_long = c.tell_site-reached.auto.own ∙ c.loop-j.invariant.own_long;
   told_long = c.tell_site-reached.auto.told ∙ c.loop-j.invariant.told_long;
   state_long = c.tell_site-reached.auto.state ∙ c.loop-j.invariant.state_long;
