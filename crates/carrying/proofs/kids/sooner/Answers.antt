@@ -1,4 +1,5 @@
 -- `sooner` meets its contract: the end, or the begin of an edge of u that begins after x and before it.
+use native.Mathlib.Omega.{arith}
 use Rattle.carrying.proofs.Childless.{other_edge, begun_edge, begin_first}
 use Rattle.carrying.proofs.kids.sooner.Goals as goal
 
@@ -9,4 +10,4 @@ pub returns-then-begin-x : goal.returns-then-begin-x
 returns-then-begin-x c = begun_edge c.if-begin-x.true
 
 pub returns : goal.returns
-returns c = begin_first c.min.ensures
+returns c = begin_first (omega arith)
