@@ -30,6 +30,14 @@ number_four s o =
     let q : o + 3 ≡ suc (suc (suc o)) = omega arith in
     omega (arith, ap (at s) (add-one o), ap (at s) p, ap (at s) q)
 
+-- four bytes are two and two
+pub number_halves : (s : List ℕ) (o : ℕ) → number 4 s o ≡ number 2 s o + number 2 s (o + 2) * 65536
+unfolding number
+number_halves s o =
+    let p : o + 2 ≡ suc (suc o) = omega arith in
+    let q : suc (o + 2) ≡ suc (suc (suc o)) = omega arith in
+    omega (arith, ap (at s) p, ap (at s) q)
+
 -- ---- a column
 
 rows_from_more : (f : ℕ → ℕ) (i k : ℕ) → rows_from f i (suc k) ≡ rows_from f i k ++ (f (i + k) ∷ [])

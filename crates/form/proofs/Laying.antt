@@ -19,6 +19,11 @@ pub bytes_one : (v : ℕ) → v < 256 → bytes_of 1 v ≡ v ∷ []
 unfolding bytes_of
 bytes_one v h = let q : v % 256 ≡ v = omega arith in ap (λ a. a ∷ []) q
 
+-- four bytes are two and two
+pub bytes_halves : (v : ℕ) → bytes_of 2 v ++ bytes_of 2 (v / 65536) ≡ bytes_of 4 v
+unfolding bytes_of
+bytes_halves v = let q : v / 65536 ≡ v / 256 / 256 = omega arith in ap (λ a. v % 256 ∷ v / 256 % 256 ∷ a % 256 ∷ a / 256 % 256 ∷ []) q
+
 -- the bytes that the library gives are those of the form
 pub bytes_four : (v : ℕ) → to_le_bytes w32 v ≡ bytes_of 4 v
 unfolding bytes_of

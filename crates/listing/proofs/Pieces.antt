@@ -1,10 +1,12 @@
 -- The pieces of each line, as the code writes them.
-use mathlib.Core.Path.{◌≡◌, refl, sym, ap}
+use mathlib.Core.Path.{◌≡◌, refl, sym, ap, ◌∙◌}
 use mathlib.Core.List.{List, [], ◌∷◌, ◌++◌}
 use Prim.Native.Nat.{ℕ}
 use borrow.Author.Tests.{eq-eqb, ne_eqb}
+use lib.ListN.{length}
 use Rattle.meaning.specs.Words.{at}
-use Rattle.meaning.specs.Printed.{decimal, rest, line, numbers, out_row, map_line, refused_line}
+use Rattle.meaning.specs.Printed.{decimal, rest, line, numbers, lines, out_row, map_line, refused_line}
+use Rattle.listing.proofs.Going.{lines_first}
 
 -- ---- a line of numbers, by numbers that equal them
 
@@ -36,6 +38,15 @@ unfolding map_line line rest
 map_pieces rows i r e = ap (λ (j : ℕ). (88 ∷ []) ++ ((32 ∷ decimal i) ++ ((32 ∷ []) ++ (out_row j ++ (10 ∷ []))))) (sym e)
 
 -- ---- words
+
+abbrev pub single : List ℕ → ℕ → List ℕ
+single w j = at w j ∷ []
+
+-- a word is its bytes, one by one
+pub word_bytes : (w : List ℕ) → lines (single w) (length w) ≡ w
+unfolding lines
+word_bytes [] = refl
+word_bytes (b ∷ w) = lines_first (single (b ∷ w)) (length w) ∙ ap (λ (l : List ℕ). b ∷ l) (word_bytes w)
 
 abbrev pub refused : List ℕ
 refused = 114 ∷ 101 ∷ 102 ∷ 117 ∷ 115 ∷ 101 ∷ 100 ∷ []

@@ -48,7 +48,8 @@ pub fn gather<T: Copy>(src: &[T], rows: &[u32], k: usize, out: &mut [T])
     ensures { (other : T) → out.new ≡ put (map (λ r. get_or src.now r other) (take k rows.now)) out.old }
 {
     for (i, row) in rows[..k].iter().enumerate() {
-        out[i] = src[wide(*row)];
+        let r = wide(*row);
+        out[i] = src[r];
     }
 }
 

@@ -1,5 +1,5 @@
 -- `writing::within::check_room_and_block` meets its contract: the tables by numbers, then the block.
-use Rattle.std.proofs.Common.{sym, ap, ◌∙◌}
+use Rattle.std.proofs.Common.{arith, sym, ap, ◌∙◌}
 use Rattle.laws.specs.Passing.{passed_on}
 use Rattle.meaning.specs.Answer.{accepted, checked_of}
 use Rattle.accepted.specs.Numbers.{refusal_refuses}
@@ -12,7 +12,7 @@ returns-in_err-check_room c =
     e ∙ (block_after c.args.need c.args.lent c.args.cells).0 (ap accepted (sym c.check_room.ensures ∙ ap checked_of c.in_err-check_room.was) ∙ refusal_refuses _)
 
 pub returns-then-cells-lt-BLOCK : goal.returns-then-cells-lt-BLOCK
-returns-then-cells-lt-BLOCK c = block_short _ c.if-cells-lt-BLOCK.true ∙ sym ((block_after _ _ c.args.cells).1 (sym c.check_room.ensures ∙ ap checked_of c.in_ok-check_room.was))
+returns-then-cells-lt-BLOCK c = block_short _ (omega arith) ∙ sym ((block_after _ _ c.args.cells).1 (sym c.check_room.ensures ∙ ap checked_of c.in_ok-check_room.was))
 
 pub returns : goal.returns
-returns c = block_long _ c.if-cells-lt-BLOCK.false ∙ sym ((block_after _ _ c.args.cells).1 (sym c.check_room.ensures ∙ ap checked_of c.in_ok-check_room.was))
+returns c = block_long _ (omega arith) ∙ sym ((block_after _ _ c.args.cells).1 (sym c.check_room.ensures ∙ ap checked_of c.in_ok-check_room.was))
