@@ -3,16 +3,19 @@
 
 #![tactic(auto)]
 
-ghost use Rattle.std.specs.Prelude.{◌≤◌, length, vec_len, IfOk, IfSome, IsTrue, ◌≡◌};
+ghost use Rattle.std.specs.Prelude.{◌≤◌, ◌-◌, length, drop, replicate, IfOk, IfSome, IsTrue, ◌≡◌};
+ghost use Rattle.std.specs.Io.KnownBytes.{Consumes};
 
 use meaning::columns::{Batch, Lent};
 use meaning::{Counts, Refusal, Told};
-use std::alloc::{AllocError, Global};
 use std::io::{ErrorKind, Read};
 use std::{fmt, io, slice};
 
 // No program takes more cases, and names of groups, than these.
 const TURNS: u32 = 100000;
+
+// No head has more bytes than this.
+const HEAD: usize = 68;
 
 // Where the answer due starts in the numbers of a case.
 const ANSWER: usize = 1;
@@ -110,12 +113,12 @@ pub fn run<R: Print, I: Read, C: Count, F: FnMut(&R, &mut I) -> io::Result<Optio
 }
 
 // One case whose numbers stand in few bytes: four words (kind, its bytes, where its numbers start in them, how many numbers), then the
-// bytes, at most so many. Kind 0 ends a group and holds its name; any other is judged by its cells and its bytes.
-pub fn take<R: Print + AllocGlobal, E, F: FnOnce(&[u32], &[u8]) -> E>(
+// bytes, at most as many as the buffer has. Kind 0 ends a group and holds its name; any other is judged by its cells and its bytes.
+pub fn take<R: Print, E, F: FnOnce(&[u32], &[u8]) -> E>(
     rt: &R,
     input: &mut impl Read,
-    most: usize,
-    cells: usize,
+    buffer: &mut [u8],
+    cells: &mut [u32],
     judge: F,
 ) -> io::Result<Option<Turn<E>>>
     requires { F.IsAlwaysCallable judge }
@@ -124,46 +127,63 @@ pub fn take<R: Print + AllocGlobal, E, F: FnOnce(&[u32], &[u8]) -> E>(
         return Ok(None);
     };
     let [kind, length, from, count] = head;
-    let Some(bytes) = fetch(input, rt.alloc(), length as usize, most)? else {
+    let Some(bytes) = fetch(input, buffer, length as usize)? else {
         return Ok(None);
     };
     if kind == 0 {
-        rt.write_all(&bytes)?;
+        rt.write_all(bytes)?;
         return Ok(Some(Turn::Group));
     }
-    let w = decode(&bytes, from as usize, count as usize, rt.alloc(), cells)?;
-    Ok(Some(Turn::Ran(judge(&w, &bytes))))
+    decode(bytes, from as usize, count as usize, cells);
+    Ok(Some(Turn::Ran(judge(cells, bytes))))
 }
 
-// The next n bytes of the input, where there are so many and n is at most this.
-pub fn fetch(
-    input: &mut impl Read,
-    alloc: Global,
+// The next n bytes of the input, put into the front of a buffer, where there are so many and it has room for them.
+pub fn fetch<'a, I: Read>(
+    input: &mut I,
+    buffer: &'a mut [u8],
     n: usize,
-    most: usize,
-) -> io::Result<Option<Vec<u8>>>
-    ensures { IfOk result (λ bytes. IfSome bytes (λ v. (vec_len v ≡ n) × (n ≤ most))) }
+) -> io::Result<Option<&'a [u8]>>
+    ensures long { IfOk result (λ bytes. IfSome bytes (λ v. (length v.now ≡ n) × (n ≤ length buffer.old))) }
+    ensures whole { IfOk result (λ bytes. IfSome bytes (λ v. Consumes (I.remaining input.old) (I.remaining input.new) v.now)) }
 {
-    if most < n {
+    let Some(room) = buffer.get_mut(..n) else {
         return Ok(None);
+    };
+    match input.read_exact(room) {
+        Ok(()) => Ok(Some(room)),
+        Err(e) if e.kind() == ErrorKind::UnexpectedEof => Ok(None),
+        Err(e) => Err(e),
     }
-    let mut bytes = Vec::new(alloc);
-    input.by_ref().take(n as u64).read_to_end(&mut bytes)?;
-    Ok(if bytes.len() == n { Some(bytes) } else { None })
 }
 
 // The next words of the input, where there are so many: a case's head.
 pub fn words<const N: usize>(input: &mut impl Read) -> io::Result<Option<[u32; N]>> {
+    let mut buffer = [0u8; HEAD];
+    let Some(bytes) = fetch(input, &mut buffer, N.saturating_mul(4))? else {
+        return Ok(None);
+    };
+    let (fours, _) = bytes.as_chunks::<4>();
     let mut words = [0u32; N];
-    for word in words.iter_mut() {
-        let mut bytes = [0u8; 4];
-        match input.read_exact(&mut bytes) {
-            Err(e) if e.kind() == ErrorKind::UnexpectedEof => return Ok(None),
-            read => read?,
-        }
-        *word = u32::from_le_bytes(bytes);
+    for (word, four) in words.iter_mut().zip(fours) {
+        *word = u32::from_le_bytes(*four);
     }
     Ok(Some(words))
+}
+
+// The bytes that the input gives until it ends or the buffer is full.
+pub fn read_full<'a>(input: &mut impl Read, buffer: &'a mut [u8]) -> io::Result<&'a [u8]>
+    ensures { IfOk result (λ bytes. length bytes.now ≤ length buffer.old) }
+{
+    let mut done = 0;
+    // A read says itself how many bytes it gave, so it is a while.
+    while done < buffer.len() {
+        match input.read(&mut buffer[done..])? {
+            0 => break,
+            n => done += n,
+        }
+    }
+    Ok(&buffer[..done])
 }
 
 // The next byte, 0 where there is none.
@@ -180,22 +200,16 @@ fn number(bytes: &mut slice::Iter<'_, u8>) -> u32 {
     }
 }
 
-// So many cells, of which the first n hold the numbers that start at this byte.
-pub fn decode(
-    bytes: &[u8],
-    from: usize,
-    n: usize,
-    alloc: Global,
-    cells: usize,
-) -> Result<Vec<u32>, AllocError>
-    ensures { IfOk result (λ v. vec_len v ≡ cells) }
+// Puts the numbers that start at this byte into the first n cells, and 0 into all others.
+pub fn decode(bytes: &[u8], from: usize, n: usize, cells: &mut [u32])
+    ensures { drop n cells.new ≡ replicate (length cells.old - n) 0 }
 {
-    let mut w = vec![in alloc; 0u32; cells]?;
     let mut bytes = bytes.get(from..).unwrap_or(&[]).iter();
-    for cell in w.iter_mut().take(n) {
+    let (filled, rest) = cells.split_at_mut(n.min(cells.len()));
+    for cell in filled {
         *cell = number(&mut bytes);
     }
-    Ok(w)
+    rest.fill(0);
 }
 
 // A cell, 0 past the end.

@@ -16,11 +16,10 @@ mod wide;
 use check_tables::columns::Columns;
 use line::Line;
 use std::io;
-use std::io::Read;
 use tally::Tally;
 
 // The most bytes of the input.
-const TEXT: u64 = 131072;
+const TEXT: usize = 131072;
 
 // Goes over all lines.
 fn run(rt: &impl Print, text: &[u8]) -> io::Result<()> {
@@ -40,7 +39,7 @@ fn run(rt: &impl Print, text: &[u8]) -> io::Result<()> {
 }
 
 fn main(rt: HostRuntime) -> io::Result<()> {
-    let mut text = Vec::new(rt.alloc());
-    rt.stdin().take(TEXT).read_to_end(&mut text)?;
-    run(&rt, &text)
+    let mut buffer = [0u8; TEXT];
+    let text = cases::read_full(&mut rt.stdin(), &mut buffer)?;
+    run(&rt, text)
 }

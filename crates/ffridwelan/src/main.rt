@@ -2,16 +2,33 @@
 
 #![tactic(auto)]
 
+ghost use Rattle.std.specs.Prelude.{◌≤◌, length, IfOk};
+
 use std::io;
 use std::io::Read;
 
 // One byte more than the longest input, so that a longer one is seen.
-const MOST: u64 = 65537;
+const MOST: usize = 65537;
+
+// The bytes that the input gives until it ends or the buffer is full.
+fn read_full<'a>(input: &mut impl Read, buffer: &'a mut [u8]) -> io::Result<&'a [u8]>
+    ensures { IfOk result (λ bytes. length bytes.now ≤ length buffer.old) }
+{
+    let mut done = 0;
+    // A read says itself how many bytes it gave, so it is a while.
+    while done < buffer.len() {
+        match input.read(&mut buffer[done..])? {
+            0 => break,
+            n => done += n,
+        }
+    }
+    Ok(&buffer[..done])
+}
 
 fn main(rt: HostRuntime) -> io::Result<()> {
-    let mut input = Vec::new(rt.alloc());
-    rt.stdin().take(MOST).read_to_end(&mut input)?;
+    let mut buffer = [0u8; MOST];
+    let input = read_full(&mut rt.stdin(), &mut buffer)?;
     let mut out = [0u8; 313344];
-    let m = show::answer(&input, &mut out);
+    let m = show::answer(input, &mut out);
     rt.write_all(&out[..m])
 }

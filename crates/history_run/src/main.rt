@@ -63,8 +63,16 @@ impl fmt::Display for Tally {
 
 fn main(rt: HostRuntime) -> io::Result<()> {
     let mut input = rt.stdin();
+    let mut buffer = [0u8; BYTES];
+    let mut cells = [0u32; CELLS];
     let _: Option<Tally> = cases::run(&rt, &mut input, |rt, input| {
-        cases::take(rt, input, BYTES, CELLS, |w, bytes| twice::judge(w, bytes))
+        cases::take(
+            rt,
+            input,
+            &mut buffer,
+            &mut cells,
+            |w, bytes| twice::judge(w, bytes),
+        )
     })?;
     Ok(())
 }

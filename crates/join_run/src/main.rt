@@ -15,8 +15,16 @@ const CELLS: usize = 65536;
 
 fn main(rt: HostRuntime) -> io::Result<()> {
     let mut input = rt.stdin();
+    let mut buffer = [0u8; BYTES];
+    let mut cells = [0u32; CELLS];
     let all: Option<Tally> = cases::run(&rt, &mut input, |rt, input| {
-        cases::take(rt, input, BYTES, CELLS, |w, bytes| held::goes(w, bytes))
+        cases::take(
+            rt,
+            input,
+            &mut buffer,
+            &mut cells,
+            |w, bytes| held::goes(w, bytes),
+        )
     })?;
     match all {
         Some(all) => println!(rt; "in all{all}"),

@@ -20,27 +20,36 @@ fn prints(file: &[u8], text: &[u8]) -> bool {
 }
 
 // One case: its kind (0 ends a group and holds its name), the lengths of file and text, the file and the text.
-fn take(rt: &(impl Print + AllocGlobal), input: &mut impl Read) -> io::Result<Option<Turn<bool>>> {
+fn take(
+    rt: &impl Print,
+    input: &mut impl Read,
+    file: &mut [u8],
+    text: &mut [u8],
+) -> io::Result<Option<Turn<bool>>> {
     let Some(head) = cases::words::<3>(input)? else {
         return Ok(None);
     };
     let [kind, n, m] = head;
-    let Some(file) = cases::fetch(input, rt.alloc(), n as usize, FILE)? else {
+    let Some(file) = cases::fetch(input, file, n as usize)? else {
         return Ok(None);
     };
     if kind == 0 {
-        rt.write_all(&file)?;
+        rt.write_all(file)?;
         return Ok(Some(Turn::Group));
     }
-    let Some(text) = cases::fetch(input, rt.alloc(), m as usize, TEXT)? else {
+    let Some(text) = cases::fetch(input, text, m as usize)? else {
         return Ok(None);
     };
-    Ok(Some(Turn::Ran(prints(&file, &text))))
+    Ok(Some(Turn::Ran(prints(file, text))))
 }
 
 fn main(rt: HostRuntime) -> io::Result<()> {
     let mut input = rt.stdin();
-    let all: Option<Tally> = cases::run(&rt, &mut input, |rt, input| take(rt, input))?;
+    let mut file = [0u8; FILE];
+    let mut text = [0u8; TEXT];
+    let all: Option<Tally> = cases::run(&rt, &mut input, |rt, input| {
+        take(rt, input, &mut file, &mut text)
+    })?;
     match all {
         Some(all) => println!(rt; "in all{all}"),
         None => Ok(()),

@@ -25,22 +25,27 @@ fn goes(head: &Head, bytes: &[u8]) -> bool {
 }
 
 // One case: its head, its bytes, and whether reading them goes as the head says; kind 0 ends a group and holds its name.
-fn take(rt: &(impl Print + AllocGlobal), input: &mut impl Read) -> io::Result<Option<Turn<bool>>> {
+fn take(
+    rt: &impl Print,
+    input: &mut impl Read,
+    buffer: &mut [u8],
+) -> io::Result<Option<Turn<bool>>> {
     let Some(head) = cases::words(input)? else {
         return Ok(None);
     };
-    let Some(bytes) = cases::fetch(input, rt.alloc(), head[1] as usize, BYTES)? else {
+    let Some(bytes) = cases::fetch(input, buffer, head[1] as usize)? else {
         return Ok(None);
     };
     if head[0] == 0 {
-        rt.write_all(&bytes)?;
+        rt.write_all(bytes)?;
         return Ok(Some(Turn::Group));
     }
-    Ok(Some(Turn::Ran(goes(&head, &bytes))))
+    Ok(Some(Turn::Ran(goes(&head, bytes))))
 }
 
 fn main(rt: HostRuntime) -> io::Result<()> {
     let mut input = rt.stdin();
-    let _: Option<Tally> = cases::run(&rt, &mut input, |rt, input| take(rt, input))?;
+    let mut buffer = [0u8; BYTES];
+    let _: Option<Tally> = cases::run(&rt, &mut input, |rt, input| take(rt, input, &mut buffer))?;
     writes::by_hand(&rt)
 }
