@@ -66,7 +66,8 @@ impl Both<'_> {
         (before + self.batch.ages.birth.len()) as u32
     }
 
-    // The time of the birth b; 0 where no node has it.
+    // The time of the birth b; 0 where no node has it. It is asked twice for each edge of a batch: a call would pass both tables by value.
+    #[inline(always)]
     pub fn time_of(self, b: u32) -> u32
         ensures { result ≡ time_in (ages_in self.entry.base.ages) (ages_in self.entry.batch.ages) b }
     {

@@ -14,8 +14,8 @@ pub fn append<T: Copy>(a: &[T], b: &[T], out: &mut [T])
     ensures { out.new ≡ put (a.now ++ b.now) out.old }
 {
     let n = a.len();
-    out[..n].copy_from_slice(a);
-    out[n..n + b.len()].copy_from_slice(b);
+    order::copy(a, &mut out[..n]);
+    order::copy(b, &mut out[n..n + b.len()]);
 }
 
 // Puts the cells of src that idx names, in idx's order, to the front of out.

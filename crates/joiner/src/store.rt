@@ -42,8 +42,8 @@ fn write_sites(base: Lent, out_position: &mut [u32], out_ancestral: &mut [u8])
         × (out_ancestral.new ≡ put base.entry.ancestral.now out_ancestral.old) }
 {
     let n = base.position.len();
-    out_position[..n].copy_from_slice(base.position);
-    out_ancestral[..n].copy_from_slice(base.ancestral);
+    order::copy(base.position, &mut out_position[..n]);
+    order::copy(base.ancestral, &mut out_ancestral[..n]);
 }
 
 // 13 with nothing written, or the result at the front of each column; base_by_birth and by_birth have the nodes by birth.

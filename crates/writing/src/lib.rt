@@ -58,7 +58,7 @@ pub fn copy<T: Copy>(src: &[T], k: usize, out: &mut [T])
     requires { (k ≤ length src.now) × (k ≤ length out.old) }
     ensures { out.new ≡ put (take k src.now) out.old }
 {
-    out[..k].copy_from_slice(&src[..k]);
+    order::copy(&src[..k], &mut out[..k]);
 }
 
 // Each of the first k cells that is a row becomes what names has for it; a cell that is none stays.

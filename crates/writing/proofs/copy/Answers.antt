@@ -7,5 +7,5 @@ use Rattle.writing.proofs.copy.Goals as goal
 pub returns : goal.returns
 unfolding put
 returns g c =
-    ap (λ l. l ++ drop c.args.k c.args.out.now) c.copy_from_slice.ensures.after
+    ap (λ l. l ++ drop c.args.k c.args.out.now) c.copy.ensures
     ∙ ap (λ j. take c.args.k c.args.src.now ++ drop j c.args.out.now) (sym (length-take-le c.args.k c.args.src.now c.requires.0))

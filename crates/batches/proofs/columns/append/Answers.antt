@@ -6,4 +6,4 @@ use Rattle.batches.proofs.Fronts.{appended}
 use Rattle.batches.proofs.columns.append.Goals as goal
 
 pub returns : goal.returns
-returns g c = appended c.args.a.now c.args.b.now c.args.out.now _ _ (length c.args.a.now + length c.args.b.now - length c.args.a.now) (omega arith) c.copy_from_slice.ensures.after c.copy_from_slice-2.ensures.after
+returns g c = appended c.args.a.now c.args.b.now c.args.out.now _ _ (length c.args.a.now + length c.args.b.now - length c.args.a.now) (omega arith) c.copy.ensures c.copy-2.ensures

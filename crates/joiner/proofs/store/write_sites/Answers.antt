@@ -9,7 +9,7 @@ use Rattle.joiner.proofs.store.write_sites.Goals as goal
 pub returns : goal.returns
 unfolding put
 returns c = (
-  ap (λ (l : List ℕ). l ++ drop (length c.args.base.position.now) c.args.out_position.now) c.copy_from_slice.ensures.after,
-  ap (λ (l : List ℕ). l ++ drop (length c.args.base.position.now) c.args.out_ancestral.now) c.copy_from_slice-2.ensures.after
+  ap (λ (l : List ℕ). l ++ drop (length c.args.base.position.now) c.args.out_position.now) c.copy.ensures,
+  ap (λ (l : List ℕ). l ++ drop (length c.args.base.position.now) c.args.out_ancestral.now) c.copy-2.ensures
       ∙ ap (λ j. c.args.base.ancestral.now ++ drop j c.args.out_ancestral.now) (sym c.requires.0),
 )

@@ -1,9 +1,15 @@
--- `key_below` meets its contract: the four numbers of each edge are its key.
-use mathlib.Core.Path.{◌∙◌}
+-- `key_below` meets its contract: the four numbers of each edge are its key, and of two edges of one parent the first two are alike.
+use mathlib.Core.Path.{◌∙◌, sym, ap}
+use Rattle.meaning.specs.Words.{at}
 use Rattle.meaning.specs.Check.{key_of}
-use Rattle.rules.proofs.Laws.{lex_four}
+use Rattle.order.specs.Lex.{lex_same}
+use Rattle.rules.proofs.Laws.{lex_two, lex_four}
 use Rattle.rules.proofs.edges.key_below.Goals as goal
+
+pub returns-then-p-q : goal.returns-then-p-q
+unfolding key_of
+returns-then-p-q c = c.lt.ensures ∙ lex_two _ _ _ _ ∙ sym (lex_same _ _ _ _ (ap (at c.args.ages.time.now) c.if-p-q.true) ∙ lex_same _ _ _ _ (ap (at c.args.ages.birth.now) c.if-p-q.true))
 
 pub returns : goal.returns
 unfolding key_of
-returns c = c.lt.ensures ∙ lex_four _ _ _ _ _ _ _ _
+returns c = c.lt-2.ensures ∙ lex_four _ _ _ _ _ _ _ _
