@@ -81,25 +81,31 @@ impl Both<'_> {
     }
 }
 
-// The lowest row of l whose number is in the base.
-fn first_known(base: Nodes, l: &[u32]) -> Option<usize>
-    ensures { result ≡ lowest_row (λ i. mem (at l.now i) base.entry.ages.birth.now) (length l.now) }
+// The lowest row of l whose number is in the base; idx helps to find it.
+fn first_known(base: &[u32], idx: &[u32], l: &[u32]) -> Option<usize>
+    requires { Helps base.now idx.now }
+    ensures { result ≡ lowest_row (λ i. mem (at l.now i) base.now) (length l.now) }
 {
     for i in 0..l.len() {
-        if base.have(l[i]) {
+        if order::ranks::known(base, idx, l[i]) {
             return Some(i);
         }
     }
     None
 }
 
-// 22: the lowest row whose birth number is in the base or earlier in the batch; idx is left with the batch's rows by birth, for later rules.
-pub fn first_batch_birth(base: Nodes, birth: &[u32], idx: &mut [u32]) -> Option<usize>
-    requires { (length idx.old ≡ length birth.now) × (length birth.now ≤ limits.nodes) }
-    ensures { (result ≡ lowest_row (batch_birth base.entry.ages.birth.now birth.now) (length birth.now)) × Ranked birth.now idx.new }
+// 22: the lowest row whose birth number is in the base or earlier in the batch; baseidx helps to find the base's, and idx is left with the batch's rows by birth, for later rules.
+pub fn first_batch_birth(
+    base: &[u32],
+    baseidx: &[u32],
+    birth: &[u32],
+    idx: &mut [u32],
+) -> Option<usize>
+    requires { Helps base.now baseidx.now × (length idx.old ≡ length birth.now) × (length birth.now ≤ limits.nodes) }
+    ensures { (result ≡ lowest_row (batch_birth base.now birth.now) (length birth.now)) × Ranked birth.now idx.new }
 {
     let repeated = rules::columns::first_repeated(birth, idx);
-    match first_known(base, birth) {
+    match first_known(base, baseidx, birth) {
         None => repeated,
         Some(known) => match repeated {
             None => Some(known),

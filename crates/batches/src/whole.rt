@@ -40,7 +40,12 @@ pub fn rules_checked<'a>(
         ≡ batch_rules len (read_base base.entry.ages.time.now base.entry.ages.birth.now (edges_in base_edges.entry) position.now)
         (batch_tables_in batch.entry) done) × Ranked batch.entry.ages.birth.now by_birth.new }
 {
-    if let Some(i) = crate::births::first_batch_birth(base, batch.ages.birth, by_birth) {
+    if let Some(i) = crate::births::first_batch_birth(
+        base.ages.birth,
+        base.by_birth,
+        batch.ages.birth,
+        by_birth,
+    ) {
         return Err(Refusal::BatchBirth(i));
     }
     let nodes = Both {
@@ -58,8 +63,10 @@ pub fn rules_checked<'a>(
     }
     if let Some(i) = crate::mutations::first_batch_mutation(
         position.len(),
-        nodes.batch,
-        batch.mutations,
+        batch.ages.birth,
+        nodes.batch.by_birth,
+        batch.mutations.site,
+        batch.mutations.node,
     ) {
         return Err(Refusal::BatchMutation(i));
     }
