@@ -33,12 +33,11 @@ impl Nodes<'_> {
     }
 }
 
-// The nodes of a base and of a batch, together no more than there may be.
+// The nodes of a base and of a batch.
 #[derive(Clone, Copy)]
 pub struct Both<'a> {
     pub base: Nodes<'a>,
     pub batch: Nodes<'a>,
-    pub ghost few: { length base.ages.birth.now + length batch.ages.birth.now ≤ limits.nodes },
 }
 
 impl Both<'_> {
@@ -52,8 +51,9 @@ impl Both<'_> {
         !self.batch.have(b)
     }
 
-    // The row of the birth b among the base's nodes with the batch's after them.
+    // The row of the birth b among the base's nodes with the batch's after them, of which there are no more than there may be.
     pub fn row_of(self, b: u32) -> u32
+        requires { length self.base.ages.birth.now + length self.batch.ages.birth.now ≤ limits.nodes }
         ensures { result ≡ index_of b (self.entry.base.ages.birth.now ++ self.entry.batch.ages.birth.now) }
     {
         let before = self.base.ages.birth.len();

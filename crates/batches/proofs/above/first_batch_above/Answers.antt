@@ -8,13 +8,13 @@ use Rattle.batches.proofs.Asking.{held_unlined, held_26}
 use Rattle.batches.proofs.above.first_batch_above.Goals as goal
 
 pub rows_of-requires : goal.rows_of-requires
-rows_of-requires c = omega (arith, c.requires.joint.even.parent_long, c.requires.edges)
+rows_of-requires c = (omega (arith, c.requires.joint.even.parent_long, c.requires.edges), omega (arith, c.requires.joint.few, c.requires.joint.base_long, c.requires.joint.long))
 
 pub rows_of-requires-2 : goal.rows_of-requires-2
-rows_of-requires-2 c = omega (arith, c.requires.joint.even.child_long, c.requires.edges)
+rows_of-requires-2 c = (omega (arith, c.requires.joint.even.child_long, c.requires.edges), omega (arith, c.requires.joint.few, c.requires.joint.base_long, c.requires.joint.long))
 
 pub rows_of-requires-3 : goal.rows_of-requires-3
-rows_of-requires-3 c = omega (arith, c.requires.node_long, c.requires.mutations)
+rows_of-requires-3 c = (omega (arith, c.requires.node_long, c.requires.mutations), omega (arith, c.requires.joint.few, c.requires.joint.base_long, c.requires.joint.long))
 
 pub slice_bounds-alltime-end : goal.slice_bounds-alltime-end
 slice_bounds-alltime-end c = joined_room c.args.nodes.base.ages.time.now c.args.nodes.batch.ages.time.now 1024 c.append.ensures c.requires.joint.few
