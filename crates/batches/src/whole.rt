@@ -26,6 +26,7 @@ pub fn lengths_checked(base: Lent, batch: Batch) -> Result<(), Refusal>
 }
 
 // 22 to 26, over a base that is sound, with its nodes by birth; by_birth is left with the batch's nodes by birth.
+// The base's edges are lent for what the answer says: what is above a batch's node is told by the batch's own.
 pub fn rules_checked<'a>(
     len: u32,
     base: Nodes<'a>,
@@ -73,10 +74,10 @@ pub fn rules_checked<'a>(
     if let Some(i) = crate::above::first_batch_above(
         len,
         nodes,
-        base_edges,
         position,
         batch.edges,
-        batch.mutations,
+        batch.mutations.site,
+        batch.mutations.node,
     ) {
         return Err(Refusal::BatchAbove(i));
     }
