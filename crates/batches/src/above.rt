@@ -1,14 +1,14 @@
 // Rule 26: rule 10 among the mutations of a batch, which stand in any order of their sites. Nodes are named by their rows.
-ghost use Rattle.std.specs.Prelude.{◌≡◌, length, [], ◌++◌};
+ghost use Rattle.std.specs.Prelude.{◌≡◌, List, ℕ, length, ◌++◌};
 ghost use Rattle.meaning.specs.Words.{at, lowest_row};
-ghost use Rattle.meaning.specs.Columns.{edges_in, mutations_in};
+ghost use Rattle.meaning.specs.Columns.{edges_in};
 ghost use Rattle.overtaking.specs.Overtaken.{overtaken};
 ghost use Rattle.batches.specs.Asked.{Above, Unlined};
-ghost use Rattle.meaning.specs.Rows.{edges_of, mutation_table};
+ghost use Rattle.meaning.specs.Rows.{EdgeColumns as EdgeTables, edges_of, mutation_table};
 ghost use Rattle.meaning.specs.Check.{mutation_above};
 
 use crate::births::Both;
-use meaning::columns::{EdgeColumns, MutationColumns};
+use meaning::columns::EdgeColumns;
 use meaning::{EdgeTable, MutationTable, NodeTable};
 use overtaking::sites::BySite;
 
@@ -73,19 +73,22 @@ fn lowest_overtaken(
 }
 
 // 26: the lowest batch mutation that is above an earlier one of its site; the batch's edges alone decide, since all that is above a base node is in the base.
+// So the base's edges are not lent: it is enough that there are some with which base and batch fit together, and the answer is that of any such edges and any derived states.
 pub fn first_batch_above(
     len: u32,
     nodes: Both,
-    base_edges: EdgeColumns,
     position: &[u32],
     edges: EdgeColumns,
-    mutations: MutationColumns,
+    site: &[u32],
+    node: &[u32],
 ) -> Option<usize>
-    requires { Above len nodes.base.ages.time.now nodes.base.ages.birth.now (edges_in base_edges) position.now
-        nodes.batch.ages.time.now nodes.batch.ages.birth.now (edges_in edges) mutations.site.now mutations.node.now }
-    ensures { result
-        ≡ lowest_row (mutation_above (edges_of (at nodes.entry.base.ages.birth.now) (edges_in base_edges.entry) ++ edges_of (λ b. b) (edges_in edges.entry)) position.now (λ b. b)
-        (mutations_in mutations.entry)) (length mutations.entry.site.now) }
+    requires { (base : EdgeTables) × Above len nodes.base.ages.time.now nodes.base.ages.birth.now base position.now
+        nodes.batch.ages.time.now nodes.batch.ages.birth.now (edges_in edges) site.now node.now }
+    ensures { (base : EdgeTables) → Above len nodes.entry.base.ages.time.now nodes.entry.base.ages.birth.now base position.now
+        nodes.entry.batch.ages.time.now nodes.entry.batch.ages.birth.now (edges_in edges.entry) site.now node.now
+        → (derived : List ℕ) → result
+        ≡ lowest_row (mutation_above (edges_of (at nodes.entry.base.ages.birth.now) base ++ edges_of (λ b. b) (edges_in edges.entry)) position.now (λ b. b)
+        (mutation_table site.now node.now derived)) (length site.now) }
 {
     let mut alltime = [0u32; NodeTable::MOST];
     let mut parentrow = [0u32; EdgeTable::MOST];
@@ -93,23 +96,16 @@ pub fn first_batch_above(
     let mut noderow = [0u32; MutationTable::MOST];
     let n = nodes.base.ages.time.len() + nodes.batch.ages.time.len();
     let m = edges.left.len();
-    let k = mutations.node.len();
+    let k = node.len();
     crate::columns::append(nodes.base.ages.time, nodes.batch.ages.time, &mut alltime);
     crate::columns::rows_of(nodes, edges.parent, &mut parentrow);
     crate::columns::rows_of(nodes, edges.child, &mut childrow);
-    crate::columns::rows_of(nodes, mutations.node, &mut noderow);
+    crate::columns::rows_of(nodes, node, &mut noderow);
     let by_rows = EdgeColumns {
         left: edges.left,
         right: edges.right,
         parent: &parentrow[..m],
         child: &childrow[..m],
     };
-    lowest_overtaken(
-        len,
-        &alltime[..n],
-        by_rows,
-        position,
-        mutations.site,
-        &noderow[..k],
-    )
+    lowest_overtaken(len, &alltime[..n], by_rows, position, site, &noderow[..k])
 }

@@ -33,12 +33,11 @@ impl Nodes<'_> {
     }
 }
 
-// The nodes of a base and of a batch, together no more than there may be.
+// The nodes of a base and of a batch.
 #[derive(Clone, Copy)]
 pub struct Both<'a> {
     pub base: Nodes<'a>,
     pub batch: Nodes<'a>,
-    pub ghost few: { length base.ages.birth.now + length batch.ages.birth.now ≤ limits.nodes },
 }
 
 impl Both<'_> {
@@ -52,8 +51,9 @@ impl Both<'_> {
         !self.batch.have(b)
     }
 
-    // The row of the birth b among the base's nodes with the batch's after them.
+    // The row of the birth b among the base's nodes with the batch's after them, of which there are no more than there may be.
     pub fn row_of(self, b: u32) -> u32
+        requires { length self.base.ages.birth.now + length self.batch.ages.birth.now ≤ limits.nodes }
         ensures { result ≡ index_of b (self.entry.base.ages.birth.now ++ self.entry.batch.ages.birth.now) }
     {
         let before = self.base.ages.birth.len();
@@ -81,25 +81,31 @@ impl Both<'_> {
     }
 }
 
-// The lowest row of l whose number is in the base.
-fn first_known(base: Nodes, l: &[u32]) -> Option<usize>
-    ensures { result ≡ lowest_row (λ i. mem (at l.now i) base.entry.ages.birth.now) (length l.now) }
+// The lowest row of l whose number is in the base; idx helps to find it.
+fn first_known(base: &[u32], idx: &[u32], l: &[u32]) -> Option<usize>
+    requires { Helps base.now idx.now }
+    ensures { result ≡ lowest_row (λ i. mem (at l.now i) base.now) (length l.now) }
 {
     for i in 0..l.len() {
-        if base.have(l[i]) {
+        if order::ranks::known(base, idx, l[i]) {
             return Some(i);
         }
     }
     None
 }
 
-// 22: the lowest row whose birth number is in the base or earlier in the batch; idx is left with the batch's rows by birth, for later rules.
-pub fn first_batch_birth(base: Nodes, birth: &[u32], idx: &mut [u32]) -> Option<usize>
-    requires { (length idx.old ≡ length birth.now) × (length birth.now ≤ limits.nodes) }
-    ensures { (result ≡ lowest_row (batch_birth base.entry.ages.birth.now birth.now) (length birth.now)) × Ranked birth.now idx.new }
+// 22: the lowest row whose birth number is in the base or earlier in the batch; baseidx helps to find the base's, and idx is left with the batch's rows by birth, for later rules.
+pub fn first_batch_birth(
+    base: &[u32],
+    baseidx: &[u32],
+    birth: &[u32],
+    idx: &mut [u32],
+) -> Option<usize>
+    requires { Helps base.now baseidx.now × (length idx.old ≡ length birth.now) × (length birth.now ≤ limits.nodes) }
+    ensures { (result ≡ lowest_row (batch_birth base.now birth.now) (length birth.now)) × Ranked birth.now idx.new }
 {
     let repeated = rules::columns::first_repeated(birth, idx);
-    match first_known(base, birth) {
+    match first_known(base, baseidx, birth) {
         None => repeated,
         Some(known) => match repeated {
             None => Some(known),

@@ -1,7 +1,7 @@
 // Columns put together: two columns in a row, births turned into rows, cells taken by a column of rows.
 ghost use Rattle.std.specs.Prelude.{◌≡◌, ◌++◌, get_or, map, ℕ, ◌+◌, ◌<◌, ◌≤◌, length};
 ghost use Rattle.meaning.specs.Words.{at, index_of};
-ghost use Rattle.meaning.specs.Answer.{put};
+ghost use Rattle.meaning.specs.Answer.{put, limits};
 ghost use Rattle.order.specs.Order.{Inside};
 ghost use Rattle.batches.specs.Joint.{rows_in};
 
@@ -51,7 +51,7 @@ pub fn gather_both<T: Copy>(a: &[T], b: &[T], idx: &[u32], out: &mut [T])
 
 // The row of birth i of names, where the births before it have theirs in out: a birth that is repeated is not looked for again.
 fn next_row(nodes: Both, names: &[u32], out: &[u32], i: usize) -> u32
-    requires { (i < length names.now) × (length names.now ≤ length out.now) × ((j : ℕ) → j < i → at out.now j ≡ index_of (at names.now j) (nodes.base.ages.birth.now ++ nodes.batch.ages.birth.now)) }
+    requires { (i < length names.now) × (length names.now ≤ length out.now) × (length nodes.base.ages.birth.now + length nodes.batch.ages.birth.now ≤ limits.nodes) × ((j : ℕ) → j < i → at out.now j ≡ index_of (at names.now j) (nodes.base.ages.birth.now ++ nodes.batch.ages.birth.now)) }
     ensures { result ≡ index_of (at names.now i) (nodes.entry.base.ages.birth.now ++ nodes.entry.batch.ages.birth.now) }
 {
     if i != 0 && names[i] == names[i - 1] {
@@ -62,7 +62,7 @@ fn next_row(nodes: Both, names: &[u32], out: &[u32], i: usize) -> u32
 
 // Puts the rows of the births that names has to the front of out.
 pub fn rows_of(nodes: Both, names: &[u32], out: &mut [u32])
-    requires { length names.now ≤ length out.old }
+    requires { (length names.now ≤ length out.old) × (length nodes.base.ages.birth.now + length nodes.batch.ages.birth.now ≤ limits.nodes) }
     ensures { out.new ≡ put (rows_in (nodes.entry.base.ages.birth.now ++ nodes.entry.batch.ages.birth.now) names.now) out.old }
 {
     for i in 0..names.len() {

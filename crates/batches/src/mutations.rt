@@ -1,29 +1,41 @@
-// Rule 25: the mutations of a batch by birth number.
-ghost use Rattle.std.specs.Prelude.{◌≡◌, ◌<◌, length};
+// Rule 25: the mutations of a batch by birth number. Their derived states, whatever they are, play no part.
+ghost use Rattle.std.specs.Prelude.{◌≡◌, ◌<◌, List, ℕ, length};
 ghost use Rattle.meaning.specs.Words.{lowest_row};
-ghost use Rattle.meaning.specs.Columns.{mutations_in};
+ghost use Rattle.meaning.specs.Rows.{mutation_table};
 ghost use Rattle.meaning.specs.Join.{batch_mutation};
+ghost use Rattle.order.specs.Ranks.{Helps};
 
-use crate::births::Nodes;
-use meaning::columns::MutationColumns;
-
-// Whether batch mutation i names no site, or no batch node.
-fn batch_mutation_at(sites: usize, batch: Nodes, mutations: MutationColumns, i: usize) -> bool
-    requires { i < length mutations.site.now }
-    ensures { result ≡ batch_mutation sites batch.entry.ages.birth.now (mutations_in mutations.entry) i }
+// Whether batch mutation i names no site, or no batch node; idx helps to find the node.
+fn batch_mutation_at(
+    sites: usize,
+    birth: &[u32],
+    idx: &[u32],
+    site: &[u32],
+    node: &[u32],
+    i: usize,
+) -> bool
+    requires { (i < length site.now) × (length node.now ≡ length site.now) × Helps birth.now idx.now }
+    ensures { (derived : List ℕ) → result ≡ batch_mutation sites birth.now (mutation_table site.now node.now derived) i }
 {
-    if sites <= mutations.site[i] as usize {
+    if sites <= site[i] as usize {
         return true;
     }
-    !batch.have(mutations.node[i])
+    !order::ranks::known(birth, idx, node[i])
 }
 
 // 25: the lowest such mutation. There are sites so many.
-pub fn first_batch_mutation(sites: usize, batch: Nodes, mutations: MutationColumns) -> Option<usize>
-    ensures { result ≡ lowest_row (batch_mutation sites batch.entry.ages.birth.now (mutations_in mutations.entry)) (length mutations.entry.site.now) }
+pub fn first_batch_mutation(
+    sites: usize,
+    birth: &[u32],
+    idx: &[u32],
+    site: &[u32],
+    node: &[u32],
+) -> Option<usize>
+    requires { (length node.now ≡ length site.now) × Helps birth.now idx.now }
+    ensures { (derived : List ℕ) → result ≡ lowest_row (batch_mutation sites birth.now (mutation_table site.now node.now derived)) (length site.now) }
 {
-    for i in 0..mutations.site.len() {
-        if batch_mutation_at(sites, batch, mutations, i) {
+    for i in 0..site.len() {
+        if batch_mutation_at(sites, birth, idx, site, node, i) {
             return Some(i);
         }
     }

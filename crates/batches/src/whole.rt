@@ -26,6 +26,7 @@ pub fn lengths_checked(base: Lent, batch: Batch) -> Result<(), Refusal>
 }
 
 // 22 to 26, over a base that is sound, with its nodes by birth; by_birth is left with the batch's nodes by birth.
+// The base's edges are lent for what the answer says: what is above a batch's node is told by the batch's own.
 pub fn rules_checked<'a>(
     len: u32,
     base: Nodes<'a>,
@@ -40,7 +41,12 @@ pub fn rules_checked<'a>(
         ≡ batch_rules len (read_base base.entry.ages.time.now base.entry.ages.birth.now (edges_in base_edges.entry) position.now)
         (batch_tables_in batch.entry) done) × Ranked batch.entry.ages.birth.now by_birth.new }
 {
-    if let Some(i) = crate::births::first_batch_birth(base, batch.ages.birth, by_birth) {
+    if let Some(i) = crate::births::first_batch_birth(
+        base.ages.birth,
+        base.by_birth,
+        batch.ages.birth,
+        by_birth,
+    ) {
         return Err(Refusal::BatchBirth(i));
     }
     let nodes = Both {
@@ -58,18 +64,20 @@ pub fn rules_checked<'a>(
     }
     if let Some(i) = crate::mutations::first_batch_mutation(
         position.len(),
-        nodes.batch,
-        batch.mutations,
+        batch.ages.birth,
+        nodes.batch.by_birth,
+        batch.mutations.site,
+        batch.mutations.node,
     ) {
         return Err(Refusal::BatchMutation(i));
     }
     if let Some(i) = crate::above::first_batch_above(
         len,
         nodes,
-        base_edges,
         position,
         batch.edges,
-        batch.mutations,
+        batch.mutations.site,
+        batch.mutations.node,
     ) {
         return Err(Refusal::BatchAbove(i));
     }

@@ -8,40 +8,40 @@ use Rattle.batches.proofs.Asking.{held_unlined, held_26}
 use Rattle.batches.proofs.above.first_batch_above.Goals as goal
 
 pub rows_of-requires : goal.rows_of-requires
-rows_of-requires c = omega (arith, c.requires.joint.even.parent_long, c.requires.edges)
+rows_of-requires c = (omega (arith, c.requires.1.joint.even.parent_long, c.requires.1.edges), omega (arith, c.requires.1.joint.few, c.requires.1.joint.base_long, c.requires.1.joint.long))
 
 pub rows_of-requires-2 : goal.rows_of-requires-2
-rows_of-requires-2 c = omega (arith, c.requires.joint.even.child_long, c.requires.edges)
+rows_of-requires-2 c = (omega (arith, c.requires.1.joint.even.child_long, c.requires.1.edges), omega (arith, c.requires.1.joint.few, c.requires.1.joint.base_long, c.requires.1.joint.long))
 
 pub rows_of-requires-3 : goal.rows_of-requires-3
-rows_of-requires-3 c = omega (arith, c.requires.node_long, c.requires.mutations)
+rows_of-requires-3 c = (omega (arith, c.requires.1.node_long, c.requires.1.mutations), omega (arith, c.requires.1.joint.few, c.requires.1.joint.base_long, c.requires.1.joint.long))
 
 pub slice_bounds-alltime-end : goal.slice_bounds-alltime-end
-slice_bounds-alltime-end c = joined_room c.args.nodes.base.ages.time.now c.args.nodes.batch.ages.time.now 1024 c.append.ensures c.requires.joint.few
+slice_bounds-alltime-end c = joined_room c.args.nodes.base.ages.time.now c.args.nodes.batch.ages.time.now 1024 c.append.ensures c.requires.1.joint.few
 
 pub slice_bounds-lowest_overtaken-end : goal.slice_bounds-lowest_overtaken-end
-slice_bounds-lowest_overtaken-end c = joined_long c.args.nodes.base.ages.time.now c.args.nodes.batch.ages.time.now 1024 c.append.ensures c.requires.joint.few
+slice_bounds-lowest_overtaken-end c = joined_long c.args.nodes.base.ages.time.now c.args.nodes.batch.ages.time.now 1024 c.append.ensures c.requires.1.joint.few
 
 pub slice_bounds-parentrow-end : goal.slice_bounds-parentrow-end
-slice_bounds-parentrow-end c = mapped_room (λ b. index_of b (c.args.nodes.base.ages.birth.now ++ c.args.nodes.batch.ages.birth.now)) c.args.edges.parent.now 4096 _ c.rows_of.ensures c.requires.joint.even.parent_long (omega (arith, c.requires.edges))
+slice_bounds-parentrow-end c = mapped_room (λ b. index_of b (c.args.nodes.base.ages.birth.now ++ c.args.nodes.batch.ages.birth.now)) c.args.edges.parent.now 4096 _ c.rows_of.ensures c.requires.1.joint.even.parent_long (omega (arith, c.requires.1.edges))
 
 pub slice_bounds-by_rows-end : goal.slice_bounds-by_rows-end
-slice_bounds-by_rows-end c = mapped_long (λ b. index_of b (c.args.nodes.base.ages.birth.now ++ c.args.nodes.batch.ages.birth.now)) c.args.edges.parent.now 4096 _ c.rows_of.ensures c.requires.joint.even.parent_long (omega (arith, c.requires.edges))
+slice_bounds-by_rows-end c = mapped_long (λ b. index_of b (c.args.nodes.base.ages.birth.now ++ c.args.nodes.batch.ages.birth.now)) c.args.edges.parent.now 4096 _ c.rows_of.ensures c.requires.1.joint.even.parent_long (omega (arith, c.requires.1.edges))
 
 pub slice_bounds-childrow-end : goal.slice_bounds-childrow-end
-slice_bounds-childrow-end c = mapped_room (λ b. index_of b (c.args.nodes.base.ages.birth.now ++ c.args.nodes.batch.ages.birth.now)) c.args.edges.child.now 4096 _ c.rows_of-2.ensures c.requires.joint.even.child_long (omega (arith, c.requires.edges))
+slice_bounds-childrow-end c = mapped_room (λ b. index_of b (c.args.nodes.base.ages.birth.now ++ c.args.nodes.batch.ages.birth.now)) c.args.edges.child.now 4096 _ c.rows_of-2.ensures c.requires.1.joint.even.child_long (omega (arith, c.requires.1.edges))
 
 pub slice_bounds-by_rows-end-2 : goal.slice_bounds-by_rows-end-2
-slice_bounds-by_rows-end-2 c = mapped_long (λ b. index_of b (c.args.nodes.base.ages.birth.now ++ c.args.nodes.batch.ages.birth.now)) c.args.edges.child.now 4096 _ c.rows_of-2.ensures c.requires.joint.even.child_long (omega (arith, c.requires.edges))
+slice_bounds-by_rows-end-2 c = mapped_long (λ b. index_of b (c.args.nodes.base.ages.birth.now ++ c.args.nodes.batch.ages.birth.now)) c.args.edges.child.now 4096 _ c.rows_of-2.ensures c.requires.1.joint.even.child_long (omega (arith, c.requires.1.edges))
 
 pub slice_bounds-noderow-end : goal.slice_bounds-noderow-end
-slice_bounds-noderow-end c = mapped_room (λ b. index_of b (c.args.nodes.base.ages.birth.now ++ c.args.nodes.batch.ages.birth.now)) c.args.mutations.node.now 1024 _ c.rows_of-3.ensures refl (omega (arith, c.requires.node_long, c.requires.mutations))
+slice_bounds-noderow-end c = mapped_room (λ b. index_of b (c.args.nodes.base.ages.birth.now ++ c.args.nodes.batch.ages.birth.now)) c.args.node.now 1024 _ c.rows_of-3.ensures refl (omega (arith, c.requires.1.node_long, c.requires.1.mutations))
 
 pub slice_bounds-lowest_overtaken-end-2 : goal.slice_bounds-lowest_overtaken-end-2
-slice_bounds-lowest_overtaken-end-2 c = mapped_long (λ b. index_of b (c.args.nodes.base.ages.birth.now ++ c.args.nodes.batch.ages.birth.now)) c.args.mutations.node.now 1024 _ c.rows_of-3.ensures refl (omega (arith, c.requires.node_long, c.requires.mutations))
+slice_bounds-lowest_overtaken-end-2 c = mapped_long (λ b. index_of b (c.args.nodes.base.ages.birth.now ++ c.args.nodes.batch.ages.birth.now)) c.args.node.now 1024 _ c.rows_of-3.ensures refl (omega (arith, c.requires.1.node_long, c.requires.1.mutations))
 
 pub lowest_overtaken-requires : goal.lowest_overtaken-requires
-lowest_overtaken-requires c = held_unlined c.requires (joined_part c.args.nodes.base.ages.time.now c.args.nodes.batch.ages.time.now 1024 c.append.ensures c.requires.joint.few) (mapped_part (λ b. index_of b (c.args.nodes.base.ages.birth.now ++ c.args.nodes.batch.ages.birth.now)) c.args.edges.parent.now 4096 _ c.rows_of.ensures c.requires.joint.even.parent_long (omega (arith, c.requires.edges))) (mapped_part (λ b. index_of b (c.args.nodes.base.ages.birth.now ++ c.args.nodes.batch.ages.birth.now)) c.args.edges.child.now 4096 _ c.rows_of-2.ensures c.requires.joint.even.child_long (omega (arith, c.requires.edges))) (mapped_part (λ b. index_of b (c.args.nodes.base.ages.birth.now ++ c.args.nodes.batch.ages.birth.now)) c.args.mutations.node.now 1024 _ c.rows_of-3.ensures refl (omega (arith, c.requires.node_long, c.requires.mutations)))
+lowest_overtaken-requires c = held_unlined c.requires.1 (joined_part c.args.nodes.base.ages.time.now c.args.nodes.batch.ages.time.now 1024 c.append.ensures c.requires.1.joint.few) (mapped_part (λ b. index_of b (c.args.nodes.base.ages.birth.now ++ c.args.nodes.batch.ages.birth.now)) c.args.edges.parent.now 4096 _ c.rows_of.ensures c.requires.1.joint.even.parent_long (omega (arith, c.requires.1.edges))) (mapped_part (λ b. index_of b (c.args.nodes.base.ages.birth.now ++ c.args.nodes.batch.ages.birth.now)) c.args.edges.child.now 4096 _ c.rows_of-2.ensures c.requires.1.joint.even.child_long (omega (arith, c.requires.1.edges))) (mapped_part (λ b. index_of b (c.args.nodes.base.ages.birth.now ++ c.args.nodes.batch.ages.birth.now)) c.args.node.now 1024 _ c.rows_of-3.ensures refl (omega (arith, c.requires.1.node_long, c.requires.1.mutations)))
 
 pub returns : goal.returns
-returns c = held_26 c.requires (joined_part c.args.nodes.base.ages.time.now c.args.nodes.batch.ages.time.now 1024 c.append.ensures c.requires.joint.few) (mapped_part (λ b. index_of b (c.args.nodes.base.ages.birth.now ++ c.args.nodes.batch.ages.birth.now)) c.args.edges.parent.now 4096 _ c.rows_of.ensures c.requires.joint.even.parent_long (omega (arith, c.requires.edges))) (mapped_part (λ b. index_of b (c.args.nodes.base.ages.birth.now ++ c.args.nodes.batch.ages.birth.now)) c.args.edges.child.now 4096 _ c.rows_of-2.ensures c.requires.joint.even.child_long (omega (arith, c.requires.edges))) (mapped_part (λ b. index_of b (c.args.nodes.base.ages.birth.now ++ c.args.nodes.batch.ages.birth.now)) c.args.mutations.node.now 1024 _ c.rows_of-3.ensures refl (omega (arith, c.requires.node_long, c.requires.mutations))) _ c.lowest_overtaken.ensures _
+returns c = λ base asked derived. held_26 asked (joined_part c.args.nodes.base.ages.time.now c.args.nodes.batch.ages.time.now 1024 c.append.ensures c.requires.1.joint.few) (mapped_part (λ b. index_of b (c.args.nodes.base.ages.birth.now ++ c.args.nodes.batch.ages.birth.now)) c.args.edges.parent.now 4096 _ c.rows_of.ensures c.requires.1.joint.even.parent_long (omega (arith, c.requires.1.edges))) (mapped_part (λ b. index_of b (c.args.nodes.base.ages.birth.now ++ c.args.nodes.batch.ages.birth.now)) c.args.edges.child.now 4096 _ c.rows_of-2.ensures c.requires.1.joint.even.child_long (omega (arith, c.requires.1.edges))) (mapped_part (λ b. index_of b (c.args.nodes.base.ages.birth.now ++ c.args.nodes.batch.ages.birth.now)) c.args.node.now 1024 _ c.rows_of-3.ensures refl (omega (arith, c.requires.1.node_long, c.requires.1.mutations))) _ c.lowest_overtaken.ensures derived

@@ -8,7 +8,7 @@ use Rattle.batches.proofs.Tests.{either_first, either_second, either_lower}
 use Rattle.batches.proofs.births.first_batch_birth.Goals as goal
 
 pub first_repeated-repeated-requires : goal.first_repeated-repeated-requires
-first_repeated-repeated-requires c = (c.requires.0, omega (arith, c.requires.1))
+first_repeated-repeated-requires c = (c.requires.1, omega (arith, c.requires.2))
 
 pub returns-in-None : goal.returns-in-None
 unfolding batch_birth

@@ -5,4 +5,4 @@ use Rattle.laws.specs.Counting.{Sought}
 use Rattle.batches.proofs.births.first_known.Given as goal
 
 abbrev pub invariant-loop-i : goal.invariant-loop-i
-invariant-loop-i l = Sought (λ k. mem (at l.l k) l.fn.base.ages.birth.now) (length l.l) l.i
+invariant-loop-i l = Sought (λ k. mem (at l.l k) l.base) (length l.l) l.i

@@ -12,7 +12,7 @@ use Rattle.joint.proofs.Anew.{over_list, from_front}
 use Rattle.joint.proofs.edges.write_by.Goals as goal
 
 pub rows_of-requires : goal.rows_of-requires
-rows_of-requires c = omega (arith, c.requires.child_long, c.requires.room.left)
+rows_of-requires c = (omega (arith, c.requires.child_long, c.requires.room.left), c.requires.few)
 
 pub slice_bounds-gather_both-end : goal.slice_bounds-gather_both-end
 slice_bounds-gather_both-end c = omega (arith, c.rows_of.auto.out, c.requires.room.left)

@@ -6,13 +6,13 @@ use Rattle.batches.proofs.Born.{base_time, batch_time, no_time}
 use Rattle.batches.proofs.births.Both.time_of.Goals as goal
 
 pub offset_bounds-self-i : goal.offset_bounds-self-i
-offset_bounds-self-i c = omega (arith, (place_in-some _ _ _ (sym c.in-Some.is ∙ c.row_of.ensures)).1, c.args.self.few)
+offset_bounds-self-i c = omega (arith, (place_in-some _ _ _ (sym c.in-Some.is ∙ c.row_of.ensures)).1, c.args.self.base.ages.even.birth_long)
 
 pub bounds-self-i : goal.bounds-self-i
 bounds-self-i c = omega (arith, (place_in-some _ _ _ (sym c.in-Some.is ∙ c.row_of.ensures)).1, c.args.self.base.ages.even.birth_long)
 
 pub offset_bounds-self-j : goal.offset_bounds-self-j
-offset_bounds-self-j c = omega (arith, (place_in-some _ _ _ (sym c.in-Some-row_of.is ∙ c.row_of-2.ensures)).1, c.args.self.few)
+offset_bounds-self-j c = omega (arith, (place_in-some _ _ _ (sym c.in-Some-row_of.is ∙ c.row_of-2.ensures)).1, c.args.self.batch.ages.even.birth_long)
 
 pub bounds-self-j : goal.bounds-self-j
 bounds-self-j c = omega (arith, (place_in-some _ _ _ (sym c.in-Some-row_of.is ∙ c.row_of-2.ensures)).1, c.args.self.batch.ages.even.birth_long)
