@@ -90,6 +90,10 @@ pub fn first_batch_above(
         ≡ lowest_row (mutation_above (edges_of (at nodes.entry.base.ages.birth.now) base ++ edges_of (λ b. b) (edges_in edges.entry)) position.now (λ b. b)
         (mutation_table site.now node.now derived)) (length site.now) }
 {
+    // without a mutation no column is cleared
+    if site.len() == 0 {
+        return None;
+    }
     let mut alltime = [0u32; NodeTable::MOST];
     let mut parentrow = [0u32; EdgeTable::MOST];
     let mut childrow = [0u32; EdgeTable::MOST];

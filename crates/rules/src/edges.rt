@@ -43,7 +43,7 @@ pub fn first_broken_edge(len: u32, time: &[u32], edges: EdgeColumns) -> Option<u
     None
 }
 
-// Whether the key of edge i is below that of edge j. Most edges stand beside one of their own parent, whose time and birth are then not looked at.
+// Whether the key of edge i is below that of edge j: of two edges of one parent by child and left, and else mostly by the parents' times.
 fn key_below(ages: Ages, edges: EdgeColumns, i: usize, j: usize) -> bool
     requires { (i < length edges.left.now) × (j < length edges.left.now) × NamedNodes (ages_in ages) (edges_in edges) }
     ensures { result ≡ lex (key_of (ages_in ages.entry) (edges_in edges.entry) i) (key_of (ages_in ages.entry) (edges_in edges.entry) j) }
@@ -54,6 +54,9 @@ fn key_below(ages: Ages, edges: EdgeColumns, i: usize, j: usize) -> bool
     let d = edges.child[j] as usize;
     if p == q {
         return (ages.birth[c], edges.left[i]) < (ages.birth[d], edges.left[j]);
+    }
+    if ages.time[p] != ages.time[q] {
+        return ages.time[p] < ages.time[q];
     }
     (ages.time[p], ages.birth[p], ages.birth[c], edges.left[i])
         < (ages.time[q], ages.birth[q], ages.birth[d], edges.left[j])

@@ -2,10 +2,14 @@
 use native.Mathlib.Omega.{arith}
 use mathlib.Core.Path.{refl}
 use mathlib.Core.List.{◌++◌}
-use Rattle.meaning.specs.Words.{index_of}
+use Rattle.meaning.specs.Words.{index_of, lowest, row_below}
 use Rattle.batches.proofs.Fronts.{joined_room, joined_long, joined_part, mapped_room, mapped_long, mapped_part}
 use Rattle.batches.proofs.Asking.{held_unlined, held_26}
 use Rattle.batches.proofs.above.first_batch_above.Goals as goal
+
+pub returns-then-site-eq0 : goal.returns-then-site-eq0
+unfolding lowest row_below
+returns-then-site-eq0 c base held derived = rw c.if-site-eq0.true refl
 
 pub rows_of-requires : goal.rows_of-requires
 rows_of-requires c = (omega (arith, c.requires.1.joint.even.parent_long, c.requires.1.edges), omega (arith, c.requires.1.joint.few, c.requires.1.joint.base_long, c.requires.1.joint.long))
