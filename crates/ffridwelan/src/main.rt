@@ -27,8 +27,8 @@ fn read_full<'a>(input: &mut impl Read, buffer: &'a mut [u8]) -> io::Result<&'a 
 
 fn main(rt: HostRuntime) -> io::Result<()> {
     let mut buffer = [0u8; MOST];
-    let input = read_full(&mut rt.stdin(), &mut buffer)?;
     let mut out = [0u8; 313344];
+    let input = read_full(&mut rt.stdin(), &mut buffer)?;
     let m = show::answer(input, &mut out);
     rt.write_all(&out[..m])
 }
