@@ -38,7 +38,7 @@
  * Any input is taken, broken rows too: no call crashes, and none runs for ever. A call keeps no state,
  * allocates nothing and reads and writes no file, so threads may call at the same time, each with its own outputs.
  * It needs stack: a thread with 220 KiB can make every call that the tests know how to make (the most that one takes is
- * 197,784 bytes for ffr_clean, 163,528 for ffr_join and 109,272 for ffr_alleles).
+ * 197,704 bytes for ffr_clean, 163,480 for ffr_join and 109,272 for ffr_alleles).
  */
 #ifndef FFRIDWELAN_H
 #define FFRIDWELAN_H
