@@ -1,5 +1,6 @@
 -- What the search for rule 26 asks of base and batch: what 1 to 5, 8 and 20 to 25 find.
 use Rattle.std.specs.Prelude.{◌≡◌, true, false, List, [], ℕ, ◌+◌, ◌<◌, ◌≤◌, length}
+use Rattle.std.proofs.Common.{arith}
 use Rattle.meaning.specs.Words.{at, mem}
 use Rattle.meaning.specs.Rows.{EdgeColumns, Tables, age_table}
 use Rattle.meaning.specs.Answer.{limits}
@@ -61,3 +62,7 @@ pub record BatchAsked (T : Tables) (B : BatchTables) : Type 0 where
   pub sites : length T.sites.position ≤ limits.sites
   pub rightwards : Rightwards T.sites.position
   pub mutations : length B.muts.site ≤ limits.mutations
+
+-- so their births together are no more than there may be
+pub asked_few : {T : Tables} {B : BatchTables} → BatchAsked T B → length T.nodes.birth + length B.nodes.birth ≤ limits.nodes
+asked_few k = omega (arith, k.few, k.base_long, k.shaped.births)

@@ -1,5 +1,6 @@
 -- Base and batch put together by rows: births are turned into rows of the base's nodes with the batch's after them.
 use Rattle.std.specs.Prelude.{◌≡◌, false, List, ◌++◌, map, ℕ, ◌+◌, ◌<◌, ◌≤◌, length}
+use Rattle.std.proofs.Common.{arith}
 use Rattle.meaning.specs.Words.{at, mem, index_of}
 use Rattle.meaning.specs.Rows.{EdgeColumns, MutationColumns, Tables}
 use Rattle.meaning.specs.Answer.{limits, put}
@@ -56,6 +57,10 @@ pub record Joint (L : ℕ) (T : Tables) (B : BatchTables) : Type 0 where
   pub rising : Rising T.nodes.time T.edges
   pub even : EvenEdges B.edges
   pub edge : (i : ℕ) → i < length B.edges.left → BatchEdgeRight L T.nodes B.nodes B.edges i
+
+-- so their births together are no more than there may be
+pub joint_few : {L : ℕ} {T : Tables} {B : BatchTables} → Joint L T B → length T.nodes.birth + length B.nodes.birth ≤ limits.nodes
+joint_few k = omega (arith, k.few, k.base_long, k.long)
 
 -- ---- the joint edges in lent columns
 

@@ -11,11 +11,11 @@ use meaning::{Counts, Refusal, Told};
 use std::io::{ErrorKind, Read};
 use std::{fmt, io, slice};
 
+#[cfg(test)]
+mod tests;
+
 // No program takes more cases, and names of groups, than these.
 const TURNS: u32 = 100000;
-
-// No head has more bytes than this.
-const HEAD: usize = 68;
 
 // Where the answer due starts in the numbers of a case.
 const ANSWER: usize = 1;
@@ -159,8 +159,8 @@ pub fn fetch<'a, I: Read>(
 
 // The next words of the input, where there are so many: a case's head.
 pub fn words<const N: usize>(input: &mut impl Read) -> io::Result<Option<[u32; N]>> {
-    let mut buffer = [0u8; HEAD];
-    let Some(bytes) = fetch(input, &mut buffer, N.saturating_mul(4))? else {
+    let mut buffer = [[0u8; 4]; N];
+    let Some(bytes) = fetch(input, buffer.as_flattened_mut(), N.saturating_mul(4))? else {
         return Ok(None);
     };
     let (fours, _) = bytes.as_chunks::<4>();

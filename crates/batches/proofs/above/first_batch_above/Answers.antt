@@ -3,6 +3,7 @@ use native.Mathlib.Omega.{arith}
 use mathlib.Core.Path.{refl}
 use mathlib.Core.List.{◌++◌}
 use Rattle.meaning.specs.Words.{index_of, lowest, row_below}
+use Rattle.batches.specs.Joint.{joint_few}
 use Rattle.batches.proofs.Fronts.{joined_room, joined_long, joined_part, mapped_room, mapped_long, mapped_part}
 use Rattle.batches.proofs.Asking.{held_unlined, held_26}
 use Rattle.batches.proofs.above.first_batch_above.Goals as goal
@@ -12,13 +13,13 @@ unfolding lowest row_below
 returns-then-site-eq0 c base held derived = rw c.if-site-eq0.true refl
 
 pub rows_of-requires : goal.rows_of-requires
-rows_of-requires c = (omega (arith, c.requires.1.joint.even.parent_long, c.requires.1.edges), omega (arith, c.requires.1.joint.few, c.requires.1.joint.base_long, c.requires.1.joint.long))
+rows_of-requires c = (omega (arith, c.requires.1.joint.even.parent_long, c.requires.1.edges), joint_few c.requires.1.joint)
 
 pub rows_of-requires-2 : goal.rows_of-requires-2
-rows_of-requires-2 c = (omega (arith, c.requires.1.joint.even.child_long, c.requires.1.edges), omega (arith, c.requires.1.joint.few, c.requires.1.joint.base_long, c.requires.1.joint.long))
+rows_of-requires-2 c = (omega (arith, c.requires.1.joint.even.child_long, c.requires.1.edges), joint_few c.requires.1.joint)
 
 pub rows_of-requires-3 : goal.rows_of-requires-3
-rows_of-requires-3 c = (omega (arith, c.requires.1.node_long, c.requires.1.mutations), omega (arith, c.requires.1.joint.few, c.requires.1.joint.base_long, c.requires.1.joint.long))
+rows_of-requires-3 c = (omega (arith, c.requires.1.node_long, c.requires.1.mutations), joint_few c.requires.1.joint)
 
 pub slice_bounds-alltime-end : goal.slice_bounds-alltime-end
 slice_bounds-alltime-end c = joined_room c.args.nodes.base.ages.time.now c.args.nodes.batch.ages.time.now 1024 c.append.ensures c.requires.1.joint.few
