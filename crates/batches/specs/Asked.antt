@@ -64,5 +64,5 @@ pub record BatchAsked (T : Tables) (B : BatchTables) : Type 0 where
   pub mutations : length B.muts.site ≤ limits.mutations
 
 -- so their births together are no more than there may be
-pub asked_few : {T : Tables} {B : BatchTables} → BatchAsked T B → length T.nodes.birth + length B.nodes.birth ≤ limits.nodes
-asked_few k = omega (arith, k.few, k.base_long, k.shaped.births)
+pub batch_asked_few : {T : Tables} {B : BatchTables} → BatchAsked T B → length T.nodes.birth + length B.nodes.birth ≤ limits.nodes
+batch_asked_few k = omega (arith, k.few, k.base_long, k.shaped.births)
