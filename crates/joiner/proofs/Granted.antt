@@ -17,7 +17,7 @@ use Rattle.batches.specs.Aged.{joint_aged}
 use Rattle.joint.specs.Asked.{Single, EdgesAsked}
 use Rattle.joint.specs.Sorting.{EdgeRoom}
 use Rattle.joint.specs.Mutations.{MutationRoom, MutationsAsked, MutationRows}
-use Rattle.joiner.specs.Joinable.{Joinable}
+use Rattle.joiner.specs.Joinable.{Joinable, joinable_few}
 
 -- edges of a child that share no position, each with a position
 single_of : (E : EdgeColumns) → ((i : ℕ) → i < length E.left → at E.left i < at E.right i) → ((i j x : ℕ) → j < i → i < length E.left → at E.child j ≡ at E.child i → Holds E j x → Holds E i x → ⊥) → Single E
@@ -79,7 +79,7 @@ module _ (L : ℕ) (T : Tables) (B : BatchTables) (k : Joinable L T B) where
 
   pub mutations_asked : (out : MutationColumns) → MutationRoom (length T.muts.site + length B.muts.site) out → MutationsAsked T.nodes.birth B.nodes.birth T.muts B.muts out
   mutations_asked out r = record {
-    nodes = omega (arith, k.sound.shape.births, k.batch.shape.births, k.batch.size.nodes);
+    nodes = joinable_few k;
     base_node_long = k.sound.shape.mutated;
     base_derived_long = k.sound.shape.derived;
     node_long = k.batch.shape.mutated;

@@ -2,11 +2,12 @@
 use mathlib.Core.Path.{sym, ◌∙◌}
 use native.Mathlib.Omega.{arith}
 use Rattle.meaning.specs.Columns.{edges_in}
+use Rattle.batches.specs.Asked.{batch_asked_few}
 use Rattle.batches.proofs.Found.{shared_asked, above_asked, refused_22, refused_23, refused_24, refused_25, refused_26, batch_passes}
 use Rattle.batches.proofs.whole.rules_checked.Goals as goal
 
 pub first_batch_birth-requires : goal.first_batch_birth-requires
-first_batch_birth-requires c = (c.args.base.helped, c.requires.1, omega (arith, c.requires.0.few, c.requires.0.shaped.births))
+first_batch_birth-requires c = (c.args.base.helped, c.requires.1, omega (arith, batch_asked_few c.requires.0))
 
 pub returns-in-Some : goal.returns-in-Some
 returns-in-Some c = (refused_22 _ _ _ _ (sym c.in-Some.is ∙ c.first_batch_birth.ensures.0), c.first_batch_birth.ensures.1)
